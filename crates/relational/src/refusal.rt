@@ -1,0 +1,12 @@
+// Why a request is refused, and where.
+#[derive(Clone, Copy, PartialEq, Eq, Debug)]
+pub enum Refusal {
+    // The facts are cut short, too many, or one of them is malformed.
+    Facts { at: u64 },
+    // The dependencies are cut short, too many, or one of them is malformed.
+    Dependencies { at: u64 },
+    // The first null is above 2^32, or a number that came in is not a constant.
+    Constants { at: u64 },
+    // The row for the instance is too short.
+    Room { len: u64 },
+}
