@@ -1,0 +1,3 @@
+mod Reading
+mod Testing
+pub mod Rows
