@@ -1,3 +1,9 @@
+mod Admitted
+pub mod Decidable
+pub mod Dependencies
+pub mod Homomorphisms
+pub mod Maps
+pub mod Members
 mod Reading
-mod Testing
 pub mod Rows
+pub mod Testing
