@@ -1,6 +1,6 @@
 mod Admitted
 pub mod Decidable
-pub mod Dependencies
+pub mod Kept
 pub mod Homomorphisms
 pub mod Maps
 pub mod Members
