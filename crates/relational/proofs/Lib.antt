@@ -7,3 +7,4 @@ pub mod Members
 mod Reading
 pub mod Rows
 pub mod Testing
+mod Writing

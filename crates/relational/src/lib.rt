@@ -8,6 +8,7 @@ mod read;
 mod refusal;
 mod request;
 mod term;
+mod write;
 
 pub use atom::Atom;
 pub use check::check_facts;
