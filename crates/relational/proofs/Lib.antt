@@ -1,7 +1,7 @@
 mod Admitted
 pub mod Decidable
-pub mod Kept
 pub mod Homomorphisms
+pub mod Kept
 pub mod Maps
 pub mod Members
 mod Reading
