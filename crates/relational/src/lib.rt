@@ -21,6 +21,8 @@ pub use dependency::Equated;
 pub use dependency::Head;
 pub use fact::Fact;
 pub use refusal::Refusal;
+pub use refusal::RefusalDebug;
+pub use refusal::RefusalPartialEq;
 pub use request::Dependencies;
 pub use request::Facts;
 pub use request::Request;
