@@ -11,10 +11,10 @@ mod term;
 mod write;
 
 pub use atom::Atom;
+pub use check::INSTANCE_LEN;
 pub use check::check_facts;
 pub use check::read_dependencies;
 pub use check::read_request;
-pub use check::INSTANCE_LEN;
 pub use dependency::Body;
 pub use dependency::Dependency;
 pub use dependency::Equated;
