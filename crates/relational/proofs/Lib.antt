@@ -7,4 +7,5 @@ pub mod Members
 mod Reading
 pub mod Rows
 pub mod Testing
+pub mod Stored
 mod Writing

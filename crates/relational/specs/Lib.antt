@@ -6,3 +6,4 @@ pub mod Represented
 pub mod Layout
 pub mod Readings
 pub mod Requests
+pub mod Rows
