@@ -1,0 +1,3 @@
+pub mod Reading
+pub mod Slices
+pub mod Texts

@@ -1,0 +1,10 @@
+// What the programs read and print: numbers from bytes, and facts and refusals as lines of text.
+mod bytes;
+mod lines;
+
+pub use bytes::numbers;
+pub use lines::push_fact;
+pub use lines::push_facts;
+pub use lines::push_impossible;
+pub use lines::push_refusal;
+pub use lines::push_value;
