@@ -1,3 +1,3 @@
 pub mod Reading
-pub mod Slices
+pub mod Parts
 pub mod Texts

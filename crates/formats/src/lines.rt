@@ -3,9 +3,9 @@ ghost use Rattle.formats.specs.Lines.{fact-line, fact-lines, impossible-line, 
 ghost use Rattle.relational.specs.Layout.{fact-in, facts-in};
 ghost use Rattle.std.specs.Of.String.{string-bytes};
 ghost use Rattle.std.specs.Vec.{made};
-ghost use lib.ListN.{drop};
 ghost use mathlib.Core.List.{_++_};
 ghost use mathlib.Core.Path.{_≡_};
+use crate::slices::behind;
 use std::fmt;
 
 // A constant as its number, a null counted from `c` behind a question mark.
@@ -29,13 +29,6 @@ fn push_values(out: &mut String, values: &[u64], c: u64) -> fmt::Result
         push_value(out, *value, c)?;
     }
     Ok(())
-}
-
-// The numbers from place `n` on.
-fn behind(row: &[u64], n: usize) -> &[u64]
-    ensures { λ r. ⌜ now r ≡ drop n (now (row .entry)) ⌝ }
-{
-    if n <= row.len() { &row[n..] } else { &[] }
 }
 
 // The values of the fact that `fact` begins with.

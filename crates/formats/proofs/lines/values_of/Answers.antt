@@ -1,4 +1,4 @@
-use Rattle.formats.proofs.Slices.{front-of-rest}
+use Rattle.formats.proofs.Parts.{front-of-rest}
 use Rattle.formats.proofs.lines.values_of.Needs as need
 
 pub returns : need.returns
