@@ -7,10 +7,18 @@ use native.Mathlib.Omega.{arith}
 use lib.Chars.{codes}
 use lib.ListN.{length, getD, drop}
 use Rattle.std.proofs.shelf.Lists.{drop-more, drop-all, drop-drop}
+use Rattle.std.specs.Vec.{made}
 use Rattle.std.specs.Written.{decimal}
+use Rattle.std.specs.declared.result.Result.{Result}
+use Rattle.std.specs.declared.result.Result.the-variants.{Ok, Err}
 use Rattle.relational.specs.Instances.{Fact}
 use Rattle.relational.specs.Layout.{fact-in, facts-from}
 use Rattle.formats.specs.Lines.{value-text, values-text, fact-line, fact-lines}
+
+-- what was appended, told otherwise
+pub retold : {T E : Type 0} (r : Result T E) (before after told text : List ℕ) → told ≡ text → made r (λ _. after ≡ before ++ told) → made r (λ _. after ≡ before ++ text)
+retold (Ok x) before after told text e h = h ∙ ap (λ t. before ++ t) e
+retold (Err y) before after told text e h = tt
 
 -- the three parts of a fact's line were appended
 pub fact-line-made : (c : ℕ) (f : Fact) (before relation values after : List ℕ) → relation ≡ before ++ (decimal (f .relation) ++ codes ":") → values ≡ relation ++ values-text c (f .values) → after ≡ values ++ codes "\n" → after ≡ before ++ fact-line c f

@@ -5,6 +5,7 @@ mod slices;
 mod stream;
 
 pub use bytes::numbers;
+pub use lines::number_and_place;
 pub use lines::push_fact;
 pub use lines::push_facts;
 pub use lines::push_impossible;

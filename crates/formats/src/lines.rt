@@ -1,11 +1,13 @@
 // Values, facts and refusals as text. Only want of memory keeps a text from being appended.
 ghost use Rattle.formats.specs.Lines.{fact-line, fact-lines, impossible-line, refusal-line, value-text, values-text};
 ghost use Rattle.relational.specs.Layout.{fact-in, facts-in};
+ghost use Rattle.relational.specs.Readings.{said};
 ghost use Rattle.std.specs.Of.String.{string-bytes};
 ghost use Rattle.std.specs.Vec.{made};
 ghost use mathlib.Core.List.{_++_};
 ghost use mathlib.Core.Path.{_≡_};
 use crate::slices::behind;
+use relational::Refusal;
 use std::fmt;
 
 // A constant as its number, a null counted from `c` behind a question mark.
@@ -62,6 +64,18 @@ pub fn push_facts(out: &mut String, row: &[u64], count: usize, c: u64) -> fmt::R
         rest = behind(rest, 6);
     }
     Ok(())
+}
+
+// The number and the place of a refusal.
+pub fn number_and_place(refusal: Refusal) -> (u64, u64)
+    ensures { λ r. ⌜ r ≡ said refusal ⌝ }
+{
+    match refusal {
+        Refusal::Facts { at } => (1, at),
+        Refusal::Dependencies { at } => (2, at),
+        Refusal::Constants { at } => (3, at),
+        Refusal::Room { len } => (4, len),
+    }
 }
 
 // The line of a refusal.
