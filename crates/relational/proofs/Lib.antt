@@ -1,4 +1,5 @@
 mod Admitted
+pub mod Below
 pub mod Decidable
 pub mod Homomorphisms
 pub mod Kept
