@@ -1,2 +1,3 @@
 pub mod Finite
 pub mod Variables
+pub mod Positions
