@@ -1,3 +1,4 @@
 pub mod Finite
 pub mod Variables
 pub mod Positions
+pub mod Skolem
