@@ -2,3 +2,5 @@ pub mod Finite
 pub mod Variables
 pub mod Positions
 pub mod Skolem
+pub mod Named
+pub mod Fired
