@@ -4,3 +4,4 @@ pub mod Positions
 pub mod Skolem
 pub mod Named
 pub mod Fired
+pub mod Merged
