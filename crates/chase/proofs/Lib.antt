@@ -5,3 +5,4 @@ pub mod Skolem
 pub mod Named
 pub mod Fired
 pub mod Merged
+pub mod Counted
