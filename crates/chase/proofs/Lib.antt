@@ -6,3 +6,4 @@ pub mod Named
 pub mod Fired
 pub mod Merged
 pub mod Counted
+pub mod Limited
