@@ -7,3 +7,4 @@ pub mod Fired
 pub mod Merged
 pub mod Counted
 pub mod Limited
+pub mod Ended
