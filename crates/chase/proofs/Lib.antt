@@ -8,3 +8,4 @@ pub mod Merged
 pub mod Counted
 pub mod Limited
 pub mod Ended
+mod Examples
