@@ -1,16 +1,16 @@
 -- Lists without repetition inside other lists, weights, and lists made from lists.
-use mathlib.Core.Path.{_≡_, refl, sym, ap, ap₂, subst, _∙_}
+use mathlib.Core.Path.{_≡_, refl, sym, ap, ap₂, _∙_}
 use mathlib.Core.Bool.{Bool, true, false, cond}
 use mathlib.Core.List.{List, [], _∷_, _++_, map}
 use mathlib.Core.Logic.{_⊎_, inl, inr, ⊎-elim}
-use Prim.Native.Nat.{ℕ, zero, suc, _+_, _*_, _-_, _≤_, _<_}
+use Prim.Native.Nat.{ℕ, zero, suc, _+_, _*_, _≤_, _<_}
 use native.Mathlib.Omega.{arith}
 use native.Mathlib.Nat.{zero-add, zero-mul, suc-mul, add-comm}
 use lib.Dec.{eqb}
 use lib.ListN.{length, length-append}
 use Rattle.std.specs.shelf.Lists.{kept-by}
-use Rattle.std.proofs.shelf.Tests.{eqb-true, eq-eqb, cases-eq, both-ways}
-use Rattle.relational.specs.Instances.{In, here, there, Within}
+use Rattle.std.proofs.shelf.Tests.{eqb-true, cases-eq}
+use Rattle.relational.specs.Instances.{In, here, there}
 use Rattle.relational.specs.Tests.{any}
 use Rattle.relational.proofs.Members.{in-nil, in-cons, in-head, in-left, in-right, in-append, in-map, in-map-inv}
 use Rattle.relational.proofs.Testing.{any-in}
