@@ -178,6 +178,7 @@ choice xs P h = ((λ x. go x (decide-number x xs)), λ x m. is x (decide-number 
     go : (x : ℕ) → In x xs ⊎ (In x xs → ⊥) → ℕ
     go x (inl p) = h x p .0
     go x (inr n) = 0
+
     is : (x : ℕ) (d : In x xs ⊎ (In x xs → ⊥)) → In x xs → P x (go x d)
     is x (inl p) m = h x p .1
     is x (inr n) m = absurd (n m)
