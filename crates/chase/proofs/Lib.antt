@@ -8,4 +8,5 @@ pub mod Merged
 pub mod Counted
 pub mod Limited
 pub mod Ended
+mod Chasing
 mod Examples
