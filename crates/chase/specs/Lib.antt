@@ -2,3 +2,4 @@ pub mod Ranks
 pub mod Limit
 pub mod Ends
 pub mod Moves
+pub mod Replies

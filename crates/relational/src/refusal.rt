@@ -9,4 +9,6 @@ pub enum Refusal {
     Constants { at: u64 },
     // The row for the instance is too short.
     Room { len: u64 },
+    // The chase was given up after so many steps.
+    GivenUp { steps: u64 },
 }
