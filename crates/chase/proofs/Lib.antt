@@ -10,3 +10,5 @@ pub mod Limited
 pub mod Ended
 mod Chasing
 mod Examples
+mod Loading
+mod Moved
