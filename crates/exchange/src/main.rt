@@ -1,4 +1,5 @@
-// Reads facts and rules from two files, or both from standard input, and prints the facts, a line each, or why they are refused.
+// Reads facts and rules from two files, or both from standard input, and prints the facts of a universal solution, a line each, or that there is none, or why they
+// are refused.
 mod failure;
 mod input;
 mod report;
