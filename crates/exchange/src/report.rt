@@ -33,7 +33,7 @@ fn split_first(numbers: &[u64]) -> (u64, &[u64])
 // Appends what a move of the facts is answered with: the facts of the universal solution, a line each, or why there is none.
 fn push_move(out: &mut String, facts: &[u64], rules: &[u64], c: u64) -> fmt::Result
     ensures text { λ r. ⌜ made r (λ _. string-bytes (now (out .exit)) ≡ string-bytes (now (out .entry)) ++ request-text c (request-reading (now (facts .entry)) (now (rules .entry)) 1921 c)) ⌝ }
-    ensures means { λ r. ⌜ made r (λ _. Text-means c (request-reading (now (facts .entry)) (now (rules .entry)) 1921 c) (request-text c (request-reading (now (facts .entry)) (now (rules .entry)) 1921 c))) ⌝ }
+    ensures means { λ _. ⌜ Text-means c (request-reading (now (facts .entry)) (now (rules .entry)) 1921 c) (request-text c (request-reading (now (facts .entry)) (now (rules .entry)) 1921 c)) ⌝ }
 {
     let mut row = [0; INSTANCE_LEN];
     match move_facts(facts, rules, &mut row, c) {
