@@ -9,4 +9,5 @@ mod Reading
 pub mod Rows
 pub mod Testing
 pub mod Stored
+pub mod Universal
 mod Writing
