@@ -9,3 +9,4 @@ pub mod Counted
 pub mod Limited
 pub mod Ended
 mod Examples
+mod Worked
