@@ -12,3 +12,4 @@ mod Chasing
 mod Examples
 mod Loading
 mod Moved
+mod Worked

@@ -3,3 +3,4 @@ pub mod Limit
 pub mod Ends
 pub mod Moves
 pub mod Replies
+pub mod Worked

@@ -1,4 +1,4 @@
-mod Admitted
+pub mod Admitted
 pub mod Below
 pub mod Decidable
 pub mod Homomorphisms
@@ -9,4 +9,5 @@ mod Reading
 pub mod Rows
 pub mod Testing
 pub mod Stored
+pub mod Universal
 mod Writing

@@ -7,3 +7,4 @@ pub mod Layout
 pub mod Readings
 pub mod Requests
 pub mod Rows
+pub mod Laws
