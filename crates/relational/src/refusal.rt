@@ -9,4 +9,8 @@ pub enum Refusal {
     Constants { at: u64 },
     // The row for the instance is too short.
     Room { len: u64 },
+    // The query is cut short, one of its atoms or terms is malformed or not below the first null, or no atom has a variable of its row.
+    Query { at: u64 },
+    // There is no room for the next answer.
+    Answers { count: u64 },
 }
