@@ -1,1 +1,2 @@
 pub mod Certainty
+mod Reading

@@ -1,2 +1,4 @@
 pub mod Queries
+pub mod Readings
+pub mod Represented
 pub mod Laws

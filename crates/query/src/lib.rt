@@ -1,8 +1,13 @@
 // Conjunctive queries: their answers in an instance, and which of them are certain.
 mod laws;
+mod query;
+mod read;
 
 pub use laws::answers_along;
 pub use laws::certain_more;
 pub use laws::certain_universal;
 pub use laws::no_solution_more;
 pub use laws::universal_same;
+pub use query::Query;
+pub use query::Row;
+pub use read::read_query;
