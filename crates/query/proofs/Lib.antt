@@ -1,2 +1,3 @@
 pub mod Certainty
+mod Admitted
 mod Reading
