@@ -1,3 +1,4 @@
 pub mod Certainty
 mod Admitted
 mod Reading
+mod Stored

@@ -1,4 +1,5 @@
 pub mod Queries
 pub mod Readings
+pub mod Answering
 pub mod Represented
 pub mod Laws

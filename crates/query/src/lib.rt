@@ -2,6 +2,8 @@
 mod laws;
 mod query;
 mod read;
+mod rows;
+mod values;
 
 pub use laws::answers_along;
 pub use laws::certain_more;
