@@ -1,4 +1,7 @@
 pub mod Certainty
 mod Admitted
+mod Asking
+pub mod Exact
 mod Reading
-mod Stored
+pub mod Stored
+pub mod Written
