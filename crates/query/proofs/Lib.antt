@@ -2,6 +2,7 @@ pub mod Certainty
 mod Admitted
 mod Asking
 pub mod Exact
+mod Outcomes
 mod Reading
 pub mod Stored
 pub mod Written
