@@ -1,4 +1,5 @@
 pub mod Admitted
+pub mod Below
 pub mod Decidable
 pub mod Homomorphisms
 pub mod Kept

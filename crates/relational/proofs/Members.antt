@@ -4,7 +4,8 @@ use mathlib.Core.List.{List, [], _∷_, _++_, map}
 use mathlib.Core.Logic.{_⊎_, inl, inr}
 use Prim.Native.Nat.{ℕ, zero, suc, _<_}
 use native.Mathlib.Omega.{arith}
-use lib.ListN.{length, getD}
+use lib.ListN.{length, getD, take, drop}
+use Rattle.std.proofs.shelf.Lists.{take-append-drop}
 use Rattle.relational.specs.Instances.{In, here, there, Within}
 
 pub in-nil : {A : Type 0} {a : A} → In a [] → ⊥
@@ -98,3 +99,6 @@ within-cons x xs ys h p = λ a k. elim (in-cons k) [ inl e ↦ subst (λ y. In y
 pub within-map : {A B : Type 0} (f : A → B) (xs ys : List A) → Within xs ys → Within (map f xs) (map f ys)
 unfolding Within
 within-map f xs ys p = λ b h. let t = in-map-inv f xs h in subst (λ y. In y (map f ys)) (sym (t .2)) (in-map f (p (t .0) (t .1)))
+
+pub in-take : {A : Type 0} {a : A} (i : ℕ) (xs : List A) → In a (take i xs) → In a xs
+in-take {A} {a} i xs h = subst (In a) (take-append-drop i xs) (in-left (drop i xs) h)

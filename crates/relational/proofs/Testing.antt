@@ -11,7 +11,7 @@ use Rattle.std.specs.declared.option.Option.the-variants.{Some, None}
 use Rattle.std.proofs.shelf.Tests.{and-parts, or-cases, cases-bool, false≢true}
 use Rattle.relational.specs.Instances.{In, here, there}
 use Rattle.relational.specs.Tests.{any, every, first-failing}
-use Rattle.relational.proofs.Members.{in-cons}
+use Rattle.relational.proofs.Members.{in-at}
 
 module _ {A : Type 0} (t : A → Bool) (xs : List A) (i : ℕ) where
   pub any-hit : (d : A) → i < length xs → true ≡ t (getD xs i d) → true ≡ any t (drop i xs)
@@ -72,3 +72,6 @@ pub none-failing : {A : Type 0} (t : A → Bool) (xs : List A) (i : ℕ) (x : A)
 none-failing t [] i x e h = elim h [ ]
 none-failing t (y ∷ xs) i x e here = first-passed t xs i x (t x) refl e .0
 none-failing t (y ∷ xs) i x e (there h) = none-failing t xs (suc i) x (first-passed t xs i y (t y) refl e .1) h
+
+pub every-at : {A : Type 0} (t : A → Bool) (xs : List A) (i : ℕ) (d : A) → every t xs ≡ true → i < length xs → t (getD xs i d) ≡ true
+every-at t xs i d e l = every-in t xs (getD xs i d) e (in-at xs i d l)

@@ -11,6 +11,8 @@ mod term;
 mod write;
 
 pub use atom::Atom;
+pub use check::FIRST_NULL_MAX;
+pub use check::INSTANCE_FACTS_MAX;
 pub use check::INSTANCE_LEN;
 pub use check::check_facts;
 pub use check::read_dependencies;

@@ -1,0 +1,4 @@
+pub mod Ranks
+pub mod Limit
+pub mod Ends
+pub mod Moves
