@@ -4,6 +4,8 @@ mod laws;
 mod query;
 mod read;
 mod rows;
+#[cfg(test)]
+mod tests;
 mod values;
 
 pub use ask::answers;
