@@ -76,6 +76,8 @@ pub fn number_and_place(refusal: Refusal) -> (u64, u64)
         Refusal::Constants { at } => (3, at),
         Refusal::Room { len } => (4, len),
         Refusal::GivenUp { steps } => (5, steps),
+        Refusal::Query { at } => (6, at),
+        Refusal::Answers { count } => (7, count),
     }
 }
 

@@ -5,7 +5,7 @@ pub mod Homomorphisms
 pub mod Kept
 pub mod Maps
 pub mod Members
-mod Reading
+pub mod Reading
 pub mod Rows
 pub mod Testing
 pub mod Stored

@@ -12,6 +12,8 @@ mod term;
 mod write;
 
 pub use atom::Atom;
+pub use check::FIRST_NULL_MAX;
+pub use check::INSTANCE_FACTS_MAX;
 pub use check::INSTANCE_LEN;
 pub use check::check_facts;
 pub use check::read_dependencies;
@@ -23,6 +25,9 @@ pub use dependency::Head;
 pub use fact::Fact;
 pub use laws::no_solution_of_more;
 pub use laws::universal_equivalent;
+pub use inspect::mentions;
+pub use inspect::values_below;
+pub use read::used_term;
 pub use refusal::Refusal;
 pub use refusal::RefusalDebug;
 pub use refusal::RefusalPartialEq;

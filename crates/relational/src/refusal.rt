@@ -11,4 +11,8 @@ pub enum Refusal {
     Room { len: u64 },
     // The chase was given up after so many steps.
     GivenUp { steps: u64 },
+    // The query is cut short, one of its atoms or terms is malformed or not below the first null, or no atom has a variable of its row.
+    Query { at: u64 },
+    // There is no room for the next answer.
+    Answers { count: u64 },
 }

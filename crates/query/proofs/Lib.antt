@@ -1,0 +1,8 @@
+pub mod Certainty
+mod Admitted
+mod Asking
+pub mod Exact
+mod Outcomes
+mod Reading
+pub mod Stored
+pub mod Written

@@ -1,0 +1,6 @@
+pub mod Queries
+pub mod Readings
+pub mod Answering
+pub mod Meaning
+pub mod Represented
+pub mod Laws

@@ -1,0 +1,20 @@
+// Conjunctive queries: their answers in an instance, and which of them are certain.
+mod ask;
+mod laws;
+mod query;
+mod read;
+mod rows;
+#[cfg(test)]
+mod tests;
+mod values;
+
+pub use ask::answers;
+pub use laws::answers_along;
+pub use laws::certain_more;
+pub use laws::certain_universal;
+pub use laws::no_solution_more;
+pub use laws::rows_exact;
+pub use laws::universal_same;
+pub use query::Query;
+pub use query::Row;
+pub use read::read_query;
