@@ -1,0 +1,2 @@
+pub mod Tgds
+pub mod Implied

@@ -1,0 +1,5 @@
+// What can be left out: implied dependencies, and facts that the core does without; and moving in two stages.
+mod laws;
+
+pub use laws::tgds_never_fail;
+pub use laws::tgds_only_add;
