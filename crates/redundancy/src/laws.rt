@@ -1,4 +1,5 @@
 // Theorems on what can be left out, and on moving in two stages: each function's contract is one of them.
+ghost use Rattle.redundancy.specs.Implied.{Implied-in-every-order, Implied-may-go, Implied-where-it-ends};
 ghost use Rattle.redundancy.specs.Tgds.{Tgds-never-fail, Tgds-only-add};
 
 // Steps by tgds only add facts, of relations that the tgds give.
@@ -11,6 +12,27 @@ pub fn tgds_only_add() -> u8
 // Steps by tgds never fail.
 pub fn tgds_never_fail() -> u8
     ensures { λ _. ⌜ Tgds-never-fail ⌝ }
+{
+    0
+}
+
+// The chase of a tgd's frozen body tells whether tgds imply it, in whichever order violations are mended.
+pub fn implied_in_every_order() -> u8
+    ensures { λ _. ⌜ Implied-in-every-order ⌝ }
+{
+    0
+}
+
+// So it does where the steps that mend the first violation end.
+pub fn implied_where_it_ends() -> u8
+    ensures { λ _. ⌜ Implied-where-it-ends ⌝ }
+{
+    0
+}
+
+// A dependency that the others imply may be added or left out.
+pub fn implied_may_go() -> u8
+    ensures { λ _. ⌜ Implied-may-go ⌝ }
 {
     0
 }

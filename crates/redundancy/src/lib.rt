@@ -1,5 +1,8 @@
 // What can be left out: implied dependencies, and facts that the core does without; and moving in two stages.
 mod laws;
 
+pub use laws::implied_in_every_order;
+pub use laws::implied_may_go;
+pub use laws::implied_where_it_ends;
 pub use laws::tgds_never_fail;
 pub use laws::tgds_only_add;
