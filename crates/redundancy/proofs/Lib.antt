@@ -1,2 +1,3 @@
 pub mod Tgds
 pub mod Implied
+pub mod TwoStages

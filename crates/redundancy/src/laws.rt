@@ -1,6 +1,7 @@
 // Theorems on what can be left out, and on moving in two stages: each function's contract is one of them.
 ghost use Rattle.redundancy.specs.Implied.{Implied-in-every-order, Implied-may-go, Implied-where-it-ends};
 ghost use Rattle.redundancy.specs.Tgds.{Tgds-never-fail, Tgds-only-add};
+ghost use Rattle.redundancy.specs.TwoStages.{Two-stages-in-every-order, Two-stages-right};
 
 // Steps by tgds only add facts, of relations that the tgds give.
 pub fn tgds_only_add() -> u8
@@ -33,6 +34,20 @@ pub fn implied_where_it_ends() -> u8
 // A dependency that the others imply may be added or left out.
 pub fn implied_may_go() -> u8
     ensures { λ _. ⌜ Implied-may-go ⌝ }
+{
+    0
+}
+
+// What is moved in two stages is universal for all dependencies at once, in whichever order violations are mended.
+pub fn two_stages_in_every_order() -> u8
+    ensures { λ _. ⌜ Two-stages-in-every-order ⌝ }
+{
+    0
+}
+
+// So it is with facts of constants and the steps that mend the first violation.
+pub fn two_stages_right() -> u8
+    ensures { λ _. ⌜ Two-stages-right ⌝ }
 {
     0
 }
