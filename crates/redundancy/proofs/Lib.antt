@@ -1,3 +1,4 @@
 pub mod Tgds
 pub mod Implied
 pub mod TwoStages
+pub mod Goes
