@@ -2,3 +2,4 @@ pub mod Tgds
 pub mod Implied
 pub mod TwoStages
 pub mod Goes
+pub mod Cores

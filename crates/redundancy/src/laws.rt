@@ -1,4 +1,5 @@
 // Theorems on what can be left out, and on moving in two stages: each function's contract is one of them.
+ghost use Rattle.redundancy.specs.Cores.{Core-right, Goes-into-right};
 ghost use Rattle.redundancy.specs.Implied.{Implied-in-every-order, Implied-may-go, Implied-where-it-ends};
 ghost use Rattle.redundancy.specs.Tgds.{Tgds-never-fail, Tgds-only-add};
 ghost use Rattle.redundancy.specs.TwoStages.{Two-stages-in-every-order, Two-stages-right};
@@ -48,6 +49,20 @@ pub fn two_stages_in_every_order() -> u8
 // So it is with facts of constants and the steps that mend the first violation.
 pub fn two_stages_right() -> u8
     ensures { λ _. ⌜ Two-stages-right ⌝ }
+{
+    0
+}
+
+// Whether an instance goes into another is decided by matching.
+pub fn goes_into_right() -> u8
+    ensures { λ _. ⌜ Goes-into-right ⌝ }
+{
+    0
+}
+
+// The core is a part into which the instance goes, and of which nothing can be spared.
+pub fn core_right() -> u8
+    ensures { λ _. ⌜ Core-right ⌝ }
 {
     0
 }

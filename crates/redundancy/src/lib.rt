@@ -1,6 +1,8 @@
 // What can be left out: implied dependencies, and facts that the core does without; and moving in two stages.
 mod laws;
 
+pub use laws::core_right;
+pub use laws::goes_into_right;
 pub use laws::implied_in_every_order;
 pub use laws::implied_may_go;
 pub use laws::implied_where_it_ends;
