@@ -3,3 +3,4 @@ pub mod Implied
 pub mod TwoStages
 pub mod Goes
 pub mod Cores
+pub mod Onto
