@@ -4,3 +4,4 @@ pub mod TwoStages
 pub mod Goes
 pub mod Cores
 pub mod Onto
+pub mod Retracts

@@ -1,5 +1,5 @@
 // Theorems on what can be left out, and on moving in two stages: each function's contract is one of them.
-ghost use Rattle.redundancy.specs.Cores.{Core-right, Goes-into-right};
+ghost use Rattle.redundancy.specs.Cores.{Core-right, Core-universal, Cores-universal, Goes-into-right};
 ghost use Rattle.redundancy.specs.Implied.{Implied-in-every-order, Implied-may-go, Implied-where-it-ends};
 ghost use Rattle.redundancy.specs.Tgds.{Tgds-never-fail, Tgds-only-add};
 ghost use Rattle.redundancy.specs.TwoStages.{Two-stages-in-every-order, Two-stages-right};
@@ -63,6 +63,20 @@ pub fn goes_into_right() -> u8
 // The core is a part into which the instance goes, and of which nothing can be spared.
 pub fn core_right() -> u8
     ensures { λ _. ⌜ Core-right ⌝ }
+{
+    0
+}
+
+// Any core of a universal solution of facts of constants is universal.
+pub fn cores_universal() -> u8
+    ensures { λ _. ⌜ Cores-universal ⌝ }
+{
+    0
+}
+
+// So is the core that is computed.
+pub fn core_universal() -> u8
+    ensures { λ _. ⌜ Core-universal ⌝ }
 {
     0
 }

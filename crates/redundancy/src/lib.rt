@@ -2,6 +2,8 @@
 mod laws;
 
 pub use laws::core_right;
+pub use laws::core_universal;
+pub use laws::cores_universal;
 pub use laws::goes_into_right;
 pub use laws::implied_in_every_order;
 pub use laws::implied_may_go;
