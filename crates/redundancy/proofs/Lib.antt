@@ -1,4 +1,5 @@
 pub mod Tgds
+pub mod Pulled
 pub mod Implied
 pub mod TwoStages
 pub mod Goes

@@ -1,7 +1,7 @@
 // Theorems on what can be left out, and on moving in two stages: each function's contract is one of them.
 ghost use Rattle.redundancy.specs.Cores.{Core-right, Core-universal, Cores-universal, Goes-into-right};
-ghost use Rattle.redundancy.specs.Implied.{Implied-in-every-order, Implied-may-go, Implied-where-it-ends};
-ghost use Rattle.redundancy.specs.Tgds.{Tgds-never-fail, Tgds-only-add};
+ghost use Rattle.redundancy.specs.Implied.{Implied-at-universal, Implied-in-every-order, Implied-may-go, Implied-where-it-ends};
+ghost use Rattle.redundancy.specs.Tgds.{Tgds-never-fail, Tgds-only-add, Universal-carried};
 ghost use Rattle.redundancy.specs.TwoStages.{Two-stages-in-every-order, Two-stages-right};
 
 // Steps by tgds only add facts, of relations that the tgds give.
@@ -18,6 +18,13 @@ pub fn tgds_never_fail() -> u8
     0
 }
 
+// A universal solution by tgds, with all numbers of the facts for constants, goes wherever the facts go.
+pub fn universal_carried() -> u8
+    ensures { λ _. ⌜ Universal-carried ⌝ }
+{
+    0
+}
+
 // The chase of a tgd's frozen body tells whether tgds imply it, in whichever order violations are mended.
 pub fn implied_in_every_order() -> u8
     ensures { λ _. ⌜ Implied-in-every-order ⌝ }
@@ -28,6 +35,13 @@ pub fn implied_in_every_order() -> u8
 // So it does where the steps that mend the first violation end.
 pub fn implied_where_it_ends() -> u8
     ensures { λ _. ⌜ Implied-where-it-ends ⌝ }
+{
+    0
+}
+
+// So does any universal solution of the frozen body.
+pub fn implied_at_universal() -> u8
+    ensures { λ _. ⌜ Implied-at-universal ⌝ }
 {
     0
 }
