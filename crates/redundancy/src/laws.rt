@@ -1,8 +1,15 @@
 // Theorems on what can be left out, and on moving in two stages: each function's contract is one of them.
 ghost use Rattle.redundancy.specs.Cores.{Core-right, Core-universal, Cores-universal, Goes-into-right};
 ghost use Rattle.redundancy.specs.Implied.{Implied-at-universal, Implied-in-every-order, Implied-may-go, Implied-where-it-ends};
-ghost use Rattle.redundancy.specs.Tgds.{Tgds-never-fail, Tgds-only-add, Universal-carried};
-ghost use Rattle.redundancy.specs.TwoStages.{Two-stages-in-every-order, Two-stages-right};
+ghost use Rattle.redundancy.specs.Tgds.{Only-tgds-tested, Tgds-never-fail, Tgds-only-add, Universal-carried};
+ghost use Rattle.redundancy.specs.TwoStages.{Apart-tested, Two-stages-in-every-order, Two-stages-right};
+
+// A test of each dependency tells whether all are tgds.
+pub fn only_tgds_tested() -> u8
+    ensures { λ _. ⌜ Only-tgds-tested ⌝ }
+{
+    0
+}
 
 // Steps by tgds only add facts, of relations that the tgds give.
 pub fn tgds_only_add() -> u8
@@ -49,6 +56,13 @@ pub fn implied_at_universal() -> u8
 // A dependency that the others imply may be added or left out.
 pub fn implied_may_go() -> u8
     ensures { λ _. ⌜ Implied-may-go ⌝ }
+{
+    0
+}
+
+// A test of each of the second dependencies tells whether they may come in a second stage.
+pub fn apart_tested() -> u8
+    ensures { λ _. ⌜ Apart-tested ⌝ }
 {
     0
 }
