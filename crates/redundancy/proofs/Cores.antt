@@ -1,6 +1,6 @@
 -- The core that is computed is one.
-use mathlib.Core.Path.{_≡_, refl, sym, ap, subst, _∙_}
-use mathlib.Core.Bool.{Bool, true, false, _&&_, cond}
+use mathlib.Core.Path.{_≡_, refl, sym, subst}
+use mathlib.Core.Bool.{Bool, true, false, cond}
 use mathlib.Core.List.{List, [], _∷_, _++_}
 use mathlib.Core.Logic.{_⊎_, inl, inr}
 use Prim.Native.Nat.{ℕ, zero, suc, _+_, _≤_, _<_}
@@ -11,15 +11,16 @@ use lib.ListN.{length, getD, take, drop}
 use Rattle.std.specs.shelf.Lists.{removed}
 use Rattle.std.proofs.shelf.Lists.{take-append-drop, drop-more, drop-at, drop-all, length-take-le}
 use Rattle.std.proofs.shelf.Edits.{length-removed}
-use Rattle.std.proofs.shelf.Tests.{and-parts, and-from, eqb-true, eq-eqb, or-left, or-right, both-ways, false≢true, true≢false}
+use Rattle.std.proofs.shelf.Tests.{and-parts, and-from, eqb-true, eq-eqb, both-ways, false≢true}
 use Rattle.relational.specs.Instances.{In, here, there, Within, Fact, Instance}
 use Rattle.relational.specs.Solutions.{Homomorphism}
 use Rattle.relational.specs.Tests.{any}
-use Rattle.relational.proofs.Members.{in-nil, in-cons, in-head, in-one, in-left, in-right, in-append, in-take, in-within, within-refl, within-trans}
+use Rattle.relational.proofs.Members.{in-nil, in-cons, in-head, in-one, in-left, in-right, in-append, in-take, in-within, within-trans}
 use Rattle.relational.proofs.Testing.{any-in}
 use Rattle.relational.proofs.Decidable.{decide-fact}
 use Rattle.relational.proofs.Homomorphisms.{identity, composed, extended}
-use Rattle.redundancy.specs.Cores.{goes-into, same-values, same-fact, distinct-from, distinct, thinned, core, Distinct, Core, Core-right}
+use Rattle.redundancy.specs.Cores.{goes-into, same-values, same-fact, distinct-from, distinct, thinned, core, Distinct, Core-right}
+use Rattle.redundancy.proofs.Tested.{any-from}
 use Rattle.redundancy.proofs.Goes.{goes-into-right}
 
 -- THE TEST OF FACTS
@@ -51,9 +52,7 @@ pub seen-in : (f : Fact) (seen : Instance) → any (same-fact f) seen ≡ true �
 seen-in f seen e = let t = any-in (same-fact f) seen e in subst (λ z. In z seen) (sym (same-fact-true f (t .0) (t .2))) (t .1)
 
 pub in-seen : (f : Fact) (seen : Instance) → In f seen → any (same-fact f) seen ≡ true
-in-seen f (g ∷ seen) here = or-left (same-fact f f) (any (same-fact f) seen) (same-fact-refl f)
-in-seen f (g ∷ seen) (there h) = or-right (same-fact f g) (any (same-fact f) seen) (in-seen f seen h)
-in-seen f [] h = elim h [ ]
+in-seen f seen i = any-from (same-fact f) seen f i (same-fact-refl f)
 
 -- EACH FACT ONCE
 pub distinct-only : (seen facts : Instance) (f : Fact) → In f (distinct-from seen facts) → In f facts × (In f seen → ⊥)
@@ -133,12 +132,12 @@ abbrev pub Needed : ℕ → Instance → Instance → Fact → Type 0
 Needed c u w f = (part : Instance) → Within part w → (In f part → ⊥) → Homomorphism c u part → ⊥
 
 -- SPARING, from the last to the first: what holds of those that are left, where the first i are still to be looked at
-record Thinning (c : ℕ) (u : Instance) (i : ℕ) (w : Instance) : Type 0 where
-  fits : i ≤ length w
-  within : Within w u
-  goes : Homomorphism c u w
-  needed : (f : Fact) → In f (drop i w) → Needed c u w f
-  once : Distinct w
+pub record Thinning (c : ℕ) (u : Instance) (i : ℕ) (w : Instance) : Type 0 where
+  pub fits : i ≤ length w
+  pub within : Within w u
+  pub goes : Homomorphism c u w
+  pub needed : (f : Fact) → In f (drop i w) → Needed c u w f
+  pub once : Distinct w
 
 module _ (c : ℕ) (u : Instance) (i : ℕ) (w : Instance) (t : Thinning c u (suc i) w) where
   needed-less : (f : Fact) → In f (drop i (removed w i)) → Needed c u (removed w i) f
@@ -158,10 +157,7 @@ module _ (c : ℕ) (u : Instance) (i : ℕ) (w : Instance) (t : Thinning c u (su
     | inr k ↦ t .needed f k
   ]
 
-  abbrev Next : Bool → Type 0
-  Next b = Thinning c u i (cond b (removed w i) w)
-
-  thinning-step : (b : Bool) → goes-into c u (removed w i) ≡ b → Next b
+  pub thinning-step : (b : Bool) → goes-into c u (removed w i) ≡ b → Thinning c u i (cond b (removed w i) w)
   thinning-step true q = record {
     fits = omega (arith, t .fits, length-removed w i (t .fits));
     within = within-trans (removed w i) w u (removed-within w i) (t .within);
@@ -180,14 +176,15 @@ thinning-all c u (suc i) w t =
 none-left : (c : ℕ) (u w : Instance) (f : Fact) → In f (drop (length w) w) → Needed c u w f
 none-left c u w f h = absurd (in-nil (subst (In f) (drop-all (length w) w (omega arith)) h))
 
-core-thinning : (c : ℕ) (u : Instance) → Thinning c u 0 (core c u)
-core-thinning c u = thinning-all c u (length (distinct u)) (distinct u) (record {
+-- at first nothing has been looked at
+pub thinning-start : (c : ℕ) (u : Instance) → Thinning c u (length (distinct u)) (distinct u)
+thinning-start c u = record {
   fits = omega arith;
   within = distinct-within u;
   goes = extended c u u (distinct u) (within-distinct u) (identity c u);
   needed = none-left c u (distinct u);
   once = distinct-once [] u;
-})
+}
 
 -- a part of which every fact is needed goes into no part of itself that lacks one
 lean-part : (c : ℕ) (u v : Instance) → Homomorphism c u v → ((f : Fact) → In f v → Needed c u v f) → (part : Instance) → Within part v → Homomorphism c v part → Within v part
@@ -196,5 +193,5 @@ lean-part c u v g needed part p h = λ f i. elim (decide-fact f part) [ inl k �
 
 pub core-right : Core-right
 core-right c u =
-    let t = core-thinning c u in
+    let t = thinning-all c u (length (distinct u)) (distinct u) (thinning-start c u) in
     (record { within = t .within; goes = t .goes; lean = lean-part c u (core c u) (t .goes) (t .needed) }, t .once)

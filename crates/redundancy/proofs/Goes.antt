@@ -1,21 +1,18 @@
 -- Whether an instance goes into another: its facts read as atoms, and matched.
-use mathlib.Core.Path.{_≡_, refl, sym, ap, ap₂, subst, _∙_}
+use mathlib.Core.Path.{_≡_, refl, sym, ap₂, subst}
 use mathlib.Core.Bool.{Bool, true, false, cond}
 use mathlib.Core.List.{List, [], _∷_, map}
-use mathlib.Core.Logic.{_⊎_, inl, inr}
 use Prim.Native.Nat.{ℕ, _+_, _-_, _<_}
 use native.Mathlib.Omega.{arith}
 use lib.Dec.{ltb}
 use Rattle.std.specs.Orderings.{Decides}
-use Rattle.std.proofs.shelf.Tests.{ltb-true, ltb-false, cases-bool, both-ways}
-use Rattle.relational.specs.declared.term.Term.{Term}
+use Rattle.std.proofs.shelf.Tests.{ltb-true, ltb-false}
 use Rattle.relational.specs.declared.term.Term.the-variants.{Constant, Variable}
 use Rattle.relational.specs.Instances.{In, Within, Fact, Instance, Atom, Valuation, value-of, image, Matches, Constants-below}
 use Rattle.relational.specs.Solutions.{Homomorphism}
 use Rattle.relational.proofs.Members.{in-map-inv}
 use Rattle.relational.proofs.Maps.{matches-along}
 use Rattle.relational.proofs.Homomorphisms.{composed, restricted}
-use Rattle.matching.specs.Matches.{matches, not-empty}
 use Rattle.matching.proofs.Bindings.{nothing-agrees}
 use Rattle.matching.proofs.Listed.{matches-exist}
 use Rattle.redundancy.specs.Implied.{frozen}

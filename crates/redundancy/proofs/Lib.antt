@@ -1,3 +1,4 @@
+pub mod Tested
 pub mod Tgds
 pub mod Pulled
 pub mod Implied

@@ -3,21 +3,17 @@ use mathlib.Core.Path.{_≡_, refl, sym, ap, subst, _∙_}
 use mathlib.Core.Bool.{Bool, true, false, cond}
 use mathlib.Core.List.{List, [], _∷_, map}
 use mathlib.Core.Logic.{_⊎_, inl, inr}
-use Prim.Native.Nat.{ℕ, suc, _≤_, _<_}
+use Prim.Native.Nat.{ℕ}
 use native.Mathlib.Omega.{arith}
 use lib.Dec.{eqb}
-use lib.ListN.{length, length-map}
-use Rattle.std.proofs.shelf.Tests.{eqb-true, eqb-false, eq-eqb, cases-eq, or-left, or-right, both-ways}
+use lib.ListN.{length-map}
+use Rattle.std.proofs.shelf.Tests.{eqb-true, eqb-false, eq-eqb, cases-eq, both-ways}
 use Rattle.relational.specs.Instances.{In, here, there}
 use Rattle.relational.specs.Tests.{any}
-use Rattle.relational.proofs.Members.{in-nil, in-cons, in-head, in-map}
+use Rattle.relational.proofs.Members.{in-nil, in-cons, in-map}
 use Rattle.chase.specs.Limit.{different}
+use Rattle.redundancy.proofs.Tested.{any-from}
 use Rattle.chase.proofs.Finite.{Once, once-nil, once-cons, without, without-length, without-has, once-length, different-only}
-
-any-equal : (n : ℕ) (ns : List ℕ) → In n ns → any (λ m. eqb n m) ns ≡ true
-any-equal n [] h = absurd (in-nil h)
-any-equal n (m ∷ ns) here = or-left (eqb n n) (any (λ k. eqb n k) ns) (eq-eqb n n refl)
-any-equal n (m ∷ ns) (there h) = or-right (eqb n m) (any (λ k. eqb n k) ns) (any-equal n ns h)
 
 pub different-once : (ns : List ℕ) → Once (different ns)
 unfolding different
@@ -26,7 +22,7 @@ different-once (n ∷ ns) = go (any (λ m. eqb n m) ns) refl (different-once ns)
   where
     go : (b : Bool) → any (λ m. eqb n m) ns ≡ b → Once (different ns) → Once (cond b (different ns) (n ∷ different ns))
     go true q o = o
-    go false q o = once-cons (λ h. both-ways (any (λ m. eqb n m) ns) q (any-equal n ns (different-only n ns h))) o
+    go false q o = once-cons (λ h. both-ways (any (λ m. eqb n m) ns) q (any-from (λ m. eqb n m) ns n (different-only n ns h) (eq-eqb n n refl))) o
 
 -- each number of the list comes from one of the list
 abbrev pub Onto : (ℕ → ℕ) → List ℕ → Type 0

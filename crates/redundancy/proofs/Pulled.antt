@@ -3,13 +3,13 @@ use mathlib.Core.Path.{_≡_, refl, sym, ap, ap₂, subst, _∙_}
 use mathlib.Core.Bool.{Bool, true, false, cond}
 use mathlib.Core.List.{List, [], _∷_, _++_, map}
 use mathlib.Core.Logic.{_⊎_, inl, inr}
-use Prim.Native.Nat.{ℕ, zero, suc, _+_, _-_, _≤_, _<_}
+use Prim.Native.Nat.{ℕ, zero, suc, _+_, _-_, _<_}
 use native.Mathlib.Omega.{arith}
 use lib.Dec.{eqb, ltb}
 use Rattle.std.specs.shelf.Lists.{kept-by}
-use Rattle.std.proofs.shelf.Tests.{ltb-true, ltb-false, lt-ltb, le-ltb, eqb-true, eq-eqb, both-ways}
-use Rattle.relational.specs.Instances.{In, here, there, Within, Fact, Instance, Atom, Dependency, tgd, egd, Valuation, image, Matches, Mentions, Satisfied, Keeps, Keeps-all, Below-all, Constants-below, Dependency-below, Dependencies-below}
-use Rattle.relational.specs.Solutions.{rename, Solution, Homomorphism, Universal}
+use Rattle.std.proofs.shelf.Tests.{ltb-true, ltb-false, lt-ltb, le-ltb, eqb-true, eq-eqb}
+use Rattle.relational.specs.Instances.{In, here, there, Within, Fact, Instance, Atom, Dependency, tgd, egd, Valuation, image, Matches, Mentions, Satisfied, Keeps, Keeps-all, Constants-below, Dependency-below, Dependencies-below}
+use Rattle.relational.specs.Solutions.{rename, Homomorphism}
 use Rattle.relational.specs.Terms.{mentions}
 use Rattle.relational.proofs.Members.{in-nil, in-cons, in-one, in-left, in-right, in-append, in-map, in-map-inv}
 use Rattle.relational.proofs.Maps.{matches-agree, matches-rename, image-rename}

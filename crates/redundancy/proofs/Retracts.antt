@@ -1,16 +1,12 @@
 -- An instance goes into its core by a map that leaves the core alone; so the core keeps what the instance keeps, and is universal where the instance is.
-use mathlib.Core.Path.{_≡_, refl, sym, ap, subst, _∙_}
-use mathlib.Core.List.{List, [], _∷_, map}
-use mathlib.Core.Logic.{_⊎_, inl, inr}
+use mathlib.Core.Path.{_≡_, sym, ap, subst, _∙_}
+use mathlib.Core.List.{List, map}
 use Prim.Native.Nat.{ℕ, _<_}
-use native.Mathlib.Omega.{arith}
-use Rattle.relational.specs.declared.term.Term.the-variants.{Variable}
-use Rattle.relational.specs.Instances.{In, Within, Fact, Instance, Atom, Dependency, tgd, egd, Valuation, value-of, image, Matches, Mentions, Satisfied, Keeps, Keeps-all, Below, Below-all, Constants-below, Dependency-below, Dependencies-below}
-use Rattle.relational.specs.Solutions.{rename, Solution, Homomorphism, Universal}
+use Rattle.relational.specs.Instances.{In, Within, Fact, Instance, Atom, Dependency, tgd, egd, Valuation, value-of, image, Matches, Mentions, Satisfied, Keeps, Keeps-all, Below-all, Dependency-below, Dependencies-below}
+use Rattle.relational.specs.Solutions.{rename, Homomorphism}
 use Rattle.relational.proofs.Members.{in-map, in-map-inv, in-within}
 use Rattle.relational.proofs.Maps.{matches-along, matches-within}
-use Rattle.relational.proofs.Homomorphisms.{rename-fixed, rename-rename, rename-constants, composed, restricted, renaming}
-use Rattle.relational.proofs.Decidable.{decide-fact}
+use Rattle.relational.proofs.Homomorphisms.{rename-fixed, rename-rename, rename-constants, restricted, renaming}
 use Rattle.chase.specs.Limit.{different, values-in}
 use Rattle.chase.proofs.Finite.{Once, different-has, different-only}
 use Rattle.chase.proofs.Variables.{values-in-has, values-in-only}
