@@ -7,3 +7,4 @@ pub mod Goes
 pub mod Cores
 pub mod Onto
 pub mod Retracts
+mod Examples
