@@ -8,7 +8,7 @@ use Rattle.relational.specs.Instances.{Fact, Instance, Atom, Dependency, tgd}
 use Rattle.matching.specs.Bindings.{put}
 use Rattle.matching.specs.Matches.{match-terms, match-atom, matches-over, matches}
 use Rattle.trigger.specs.Violations.{violation-among, first-from}
-use Rattle.trigger.specs.Steps.{State, Stage, working, ready, number-terms, number-atoms, mend, steps}
+use Rattle.trigger.specs.Steps.{Stage, working, ready, number-terms, number-atoms, mend, steps}
 use Rattle.redundancy.specs.Implied.{frozen-from, has-frozen-head, frozen-start}
 use Rattle.redundancy.specs.Cores.{goes-into, distinct-from, thinned, core}
 

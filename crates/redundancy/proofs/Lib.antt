@@ -7,4 +7,5 @@ pub mod Goes
 pub mod Cores
 pub mod Onto
 pub mod Retracts
+pub mod Reduced
 mod Examples

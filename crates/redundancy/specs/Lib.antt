@@ -2,3 +2,4 @@ pub mod Tgds
 pub mod Implied
 pub mod TwoStages
 pub mod Cores
+pub mod Reduced

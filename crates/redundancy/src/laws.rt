@@ -1,6 +1,7 @@
 // Theorems on what can be left out, and on moving in two stages: each function's contract is one of them.
 ghost use Rattle.redundancy.specs.Cores.{Core-right, Core-universal, Cores-universal, Goes-into-right};
 ghost use Rattle.redundancy.specs.Implied.{Implied-at-universal, Implied-in-every-order, Implied-may-go, Implied-where-it-ends};
+ghost use Rattle.redundancy.specs.Reduced.{Reduced-right};
 ghost use Rattle.redundancy.specs.Tgds.{Only-tgds-tested, Tgds-never-fail, Tgds-only-add, Universal-carried};
 ghost use Rattle.redundancy.specs.TwoStages.{Apart-tested, Two-stages-in-every-order, Two-stages-right};
 
@@ -56,6 +57,13 @@ pub fn implied_at_universal() -> u8
 // A dependency that the others imply may be added or left out.
 pub fn implied_may_go() -> u8
     ensures { λ _. ⌜ Implied-may-go ⌝ }
+{
+    0
+}
+
+// Dependencies that the others imply may go one by one: the same instances are solutions, and none of those that stay is implied by the others.
+pub fn reduced_right() -> u8
+    ensures { λ _. ⌜ Reduced-right ⌝ }
 {
     0
 }
