@@ -70,7 +70,7 @@ module _ (c : ℕ) (u v : Instance) (k : Core c u v) where
       let q = facts-onto (rename (k .goes .on) f) (k .goes .into f i) in
       let back : ℕ → ℕ = undone (k .goes .on) numbers in
       let e : rename on f ≡ q .0 =
-          sym (rename-rename back (k .goes .on) f) ∙ ap (rename back) (q .2) ∙ rename-rename back (k .goes .on) (q .0) ∙ rename-fixed on (q .0) (λ n j. on-leaves (q .0) n (q .1) j) in
+      sym (rename-rename back (k .goes .on) f) ∙ ap (rename back) (q .2) ∙ rename-rename back (k .goes .on) (q .0) ∙ rename-fixed on (q .0) (λ n j. on-leaves (q .0) n (q .1) j) in
       subst (λ z. In z v) (sym e) (q .1)
 
   pub retraction : (e : Homomorphism c u v) × ((f : Fact) (n : ℕ) → In f v → In n (f .values) → e .on n ≡ n)
