@@ -19,9 +19,9 @@ use Rattle.relational.proofs.Members.{in-nil, in-cons, in-head, in-one, in-left
 use Rattle.relational.proofs.Testing.{any-in}
 use Rattle.relational.proofs.Decidable.{decide-fact}
 use Rattle.relational.proofs.Homomorphisms.{identity, composed, extended}
-use Rattle.redundancy.specs.Cores.{goes-into, same-values, same-fact, distinct-from, distinct, thinned, core, Distinct, Core-right}
+use Rattle.redundancy.specs.Cores.{has-homomorphism, same-values, same-fact, distinct-from, distinct, thinned, core, Distinct, Core-right}
 use Rattle.redundancy.proofs.Tested.{any-from}
-use Rattle.redundancy.proofs.Goes.{goes-into-right}
+use Rattle.redundancy.proofs.Homomorphisms.{homomorphism-tested}
 
 -- THE TEST OF FACTS
 same-values-true : (ms ns : List ℕ) → same-values ms ns ≡ true → ms ≡ ns
@@ -148,20 +148,20 @@ module _ (c : ℕ) (u : Instance) (i : ℕ) (w : Instance) (t : Thinning c u (su
   unfolding Within
   within-removed d part p n = λ g j. removed-has w i d g (t .fits) (λ e. n (subst (λ z. In z part) e j)) (p g j)
 
-  needed-here : goes-into c u (removed w i) ≡ false → (d : Fact) → Needed c u w (getD w i d)
-  needed-here q d = λ part p n g. both-ways (goes-into c u (removed w i)) q (goes-into-right c u (removed w i) .1 (extended c u part (removed w i) (within-removed d part p n) g))
+  needed-here : has-homomorphism c u (removed w i) ≡ false → (d : Fact) → Needed c u w (getD w i d)
+  needed-here q d = λ part p n g. both-ways (has-homomorphism c u (removed w i)) q (homomorphism-tested c u (removed w i) .1 (extended c u part (removed w i) (within-removed d part p n) g))
 
-  needed-still : goes-into c u (removed w i) ≡ false → (f : Fact) → In f (drop i w) → Needed c u w f
+  needed-still : has-homomorphism c u (removed w i) ≡ false → (f : Fact) → In f (drop i w) → Needed c u w f
   needed-still q f h = elim (in-cons (subst (In f) (at-place w i f (t .fits)) h)) [
     | inl e ↦ subst (Needed c u w) (sym e) (needed-here q f)
     | inr k ↦ t .needed f k
   ]
 
-  pub thinning-step : (b : Bool) → goes-into c u (removed w i) ≡ b → Thinning c u i (cond b (removed w i) w)
+  pub thinning-step : (b : Bool) → has-homomorphism c u (removed w i) ≡ b → Thinning c u i (cond b (removed w i) w)
   thinning-step true q = record {
     fits = omega (arith, t .fits, length-removed w i (t .fits));
     within = within-trans (removed w i) w u (removed-within w i) (t .within);
-    goes = goes-into-right c u (removed w i) .0 q;
+    goes = homomorphism-tested c u (removed w i) .0 q;
     needed = needed-less;
     once = removed-distinct w i (t .once);
   }
@@ -171,7 +171,7 @@ thinning-all : (c : ℕ) (u : Instance) (i : ℕ) (w : Instance) → Thinning c 
 unfolding thinned
 thinning-all c u zero w t = t
 thinning-all c u (suc i) w t =
-    thinning-all c u i (cond (goes-into c u (removed w i)) (removed w i) w) (thinning-step c u i w t (goes-into c u (removed w i)) refl)
+    thinning-all c u i (cond (has-homomorphism c u (removed w i)) (removed w i) w) (thinning-step c u i w t (has-homomorphism c u (removed w i)) refl)
 
 none-left : (c : ℕ) (u w : Instance) (f : Fact) → In f (drop (length w) w) → Needed c u w f
 none-left c u w f h = absurd (in-nil (subst (In f) (drop-all (length w) w (omega arith)) h))
@@ -187,11 +187,11 @@ thinning-start c u = record {
 }
 
 -- a part of which every fact is needed goes into no part of itself that lacks one
-lean-part : (c : ℕ) (u v : Instance) → Homomorphism c u v → ((f : Fact) → In f v → Needed c u v f) → (part : Instance) → Within part v → Homomorphism c v part → Within v part
+minimal-part : (c : ℕ) (u v : Instance) → Homomorphism c u v → ((f : Fact) → In f v → Needed c u v f) → (part : Instance) → Within part v → Homomorphism c v part → Within v part
 unfolding Within
-lean-part c u v g needed part p h = λ f i. elim (decide-fact f part) [ inl k ↦ k | inr n ↦ absurd (needed f i part p n (composed c u v part g h)) ]
+minimal-part c u v g needed part p h = λ f i. elim (decide-fact f part) [ inl k ↦ k | inr n ↦ absurd (needed f i part p n (composed c u v part g h)) ]
 
 pub core-right : Core-right
 core-right c u =
     let t = thinning-all c u (length (distinct u)) (distinct u) (thinning-start c u) in
-    (record { within = t .within; goes = t .goes; lean = lean-part c u (core c u) (t .goes) (t .needed) }, t .once)
+    (record { within = t .within; goes = t .goes; minimal = minimal-part c u (core c u) (t .goes) (t .needed) }, t .once)

@@ -10,7 +10,7 @@ use Rattle.matching.specs.Matches.{match-terms, match-atom, matches-over, match
 use Rattle.trigger.specs.Violations.{violation-among, first-from}
 use Rattle.trigger.specs.Steps.{Stage, working, ready, number-terms, number-atoms, mend, steps}
 use Rattle.redundancy.specs.Implied.{frozen-from, has-frozen-head, frozen-start}
-use Rattle.redundancy.specs.Cores.{goes-into, distinct-from, thinned, core}
+use Rattle.redundancy.specs.Cores.{has-homomorphism, distinct-from, thinned, core}
 
 -- a fact of two values, and an atom of two variables
 abbrev fact : ℕ → ℕ → ℕ → Fact
@@ -21,18 +21,18 @@ atom r x y = record { relation = r; terms = Variable x ∷ Variable y ∷ [] }
 
 -- two nulls fold onto two others only together: 100 and 101, 102 and 103
 folds : core 100 (fact 0 100 101 ∷ fact 0 101 100 ∷ fact 0 102 103 ∷ fact 0 103 102 ∷ []) ≡ fact 0 100 101 ∷ fact 0 101 100 ∷ []
-unfolding put match-terms match-atom matches-over matches goes-into distinct-from thinned
+unfolding put match-terms match-atom matches-over matches has-homomorphism distinct-from thinned
 folds = refl
 
 -- constants stay where they are
 stays : core 100 (fact 0 1 2 ∷ fact 0 2 1 ∷ fact 0 3 4 ∷ []) ≡ fact 0 1 2 ∷ fact 0 2 1 ∷ fact 0 3 4 ∷ []
-unfolding put match-terms match-atom matches-over matches goes-into distinct-from thinned
+unfolding put match-terms match-atom matches-over matches has-homomorphism distinct-from thinned
 stays = refl
 
 -- a fact that stands twice stays where it stood first, and what a null says is not needed where a constant says it
-stands-twice : core 100 (fact 0 1 100 ∷ fact 1 2 3 ∷ fact 0 1 5 ∷ fact 1 2 3 ∷ []) ≡ fact 1 2 3 ∷ fact 0 1 5 ∷ []
-unfolding put match-terms match-atom matches-over matches goes-into distinct-from thinned
-stands-twice = refl
+repeated : core 100 (fact 0 1 100 ∷ fact 1 2 3 ∷ fact 0 1 5 ∷ fact 1 2 3 ∷ []) ≡ fact 1 2 3 ∷ fact 0 1 5 ∷ []
+unfolding put match-terms match-atom matches-over matches has-homomorphism distinct-from thinned
+repeated = refl
 
 -- what the chase of the frozen body makes of it
 abbrev chased : List Dependency → List Atom → Stage

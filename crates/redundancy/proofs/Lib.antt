@@ -3,7 +3,7 @@ pub mod Tgds
 pub mod Pulled
 pub mod Implied
 pub mod TwoStages
-pub mod Goes
+pub mod Homomorphisms
 pub mod Cores
 pub mod Onto
 pub mod Retracts

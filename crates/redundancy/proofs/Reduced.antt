@@ -41,8 +41,8 @@ reduced-within (goes {stay = stay} {rest = rest} {result = result} {d = d} h r) 
 reduced-within (remains {stay = stay} {rest = rest} {result = result} {d = d} n r) = subst (Within result) (append-assoc stay (d ∷ []) rest) (reduced-within r)
 
 -- none of those that stay is implied by the others and the rest
-abbrev Lean : (stay rest : List Dependency) → Type 0
-Lean stay rest = (before after : List Dependency) (d : Dependency) → stay ≡ before ++ d ∷ after → Implies ((before ++ after) ++ rest) d → ⊥
+abbrev Minimal : (stay rest : List Dependency) → Type 0
+Minimal stay rest = (before after : List Dependency) (d : Dependency) → stay ≡ before ++ d ∷ after → Implies ((before ++ after) ++ rest) d → ⊥
 
 not-nil : {A : Type 0} (xs : List A) (y : A) (ys : List A) → [] ≡ xs ++ y ∷ ys → ⊥
 not-nil [] y ys e = let z : _≡_ {A = ℕ} 0 1 = cc in omega arith
@@ -61,11 +61,11 @@ split-last {A} (x ∷ xs) e (y ∷ before) d after q = go (split-last xs e befor
     go (inl t) = let p = t .2 in inl (t .0, t .1, cc)
     go (inr t) = let p = t .2 in inr (t .0, t .1, cc)
 
-lean-less : (stay rest : List Dependency) (e : Dependency) → Lean stay (e ∷ rest) → Lean stay rest
-lean-less stay rest e l = λ before after d q h. l before after d q (implies-more ((before ++ after) ++ rest) ((before ++ after) ++ e ∷ rest) d (within-one-more (before ++ after) rest e) h)
+minimal-less : (stay rest : List Dependency) (e : Dependency) → Minimal stay (e ∷ rest) → Minimal stay rest
+minimal-less stay rest e l = λ before after d q h. l before after d q (implies-more ((before ++ after) ++ rest) ((before ++ after) ++ e ∷ rest) d (within-one-more (before ++ after) rest e) h)
 
-lean-one-more : (stay rest : List Dependency) (e : Dependency) → (Implies (stay ++ rest) e → ⊥) → Lean stay (e ∷ rest) → Lean (stay ++ e ∷ []) rest
-lean-one-more stay rest e n l = λ before after d q h. go before after d h (split-last stay e before d after q)
+minimal-one-more : (stay rest : List Dependency) (e : Dependency) → (Implies (stay ++ rest) e → ⊥) → Minimal stay (e ∷ rest) → Minimal (stay ++ e ∷ []) rest
+minimal-one-more stay rest e n l = λ before after d q h. go before after d h (split-last stay e before d after q)
   where
     within : (before after : List Dependency) → Within ((before ++ (after ++ e ∷ [])) ++ rest) ((before ++ after) ++ e ∷ rest)
     within before after = subst (λ z. Within z ((before ++ after) ++ e ∷ rest)) (sym (ap (λ z. z ++ rest) (sym (append-assoc before after (e ∷ []))) ∙ append-assoc (before ++ after) (e ∷ []) rest)) (within-refl ((before ++ after) ++ e ∷ rest))
@@ -80,10 +80,10 @@ lean-one-more stay rest e n l = λ before after d q h. go before after d h (spli
         let j : Implies (before ++ rest) d = subst (λ z. Implies (z ++ rest) d) (append-nil before) i in
         n (subst (Implies (stay ++ rest)) (t .1) (subst (λ z. Implies (z ++ rest) d) (t .2) j))
 
-reduced-lean : {stay rest result : List Dependency} → Reduced stay rest result → Lean stay rest → Lean result []
-reduced-lean judged l = l
-reduced-lean (goes {stay = stay} {rest = rest} {d = d} h r) l = reduced-lean r (lean-less stay rest d l)
-reduced-lean (remains {stay = stay} {rest = rest} {d = d} n r) l = reduced-lean r (lean-one-more stay rest d n l)
+reduced-minimal : {stay rest result : List Dependency} → Reduced stay rest result → Minimal stay rest → Minimal result []
+reduced-minimal judged l = l
+reduced-minimal (goes {stay = stay} {rest = rest} {d = d} h r) l = reduced-minimal r (minimal-less stay rest d l)
+reduced-minimal (remains {stay = stay} {rest = rest} {d = d} n r) l = reduced-minimal r (minimal-one-more stay rest d n l)
 
 pub reduced-right : Reduced-right
 reduced-right ds result r =
@@ -91,5 +91,5 @@ reduced-right ds result r =
     record {
       within = reduced-within r;
       same = λ facts k. ((λ s. record { has = s .has; keeps = t .onward k (s .keeps) }), λ s. record { has = s .has; keeps = t .back k (s .keeps) });
-      lean = λ before after d q h. reduced-lean r (λ b a e p i. not-nil b e a p) before after d q (subst (λ z. Implies z d) (sym (append-nil (before ++ after))) h);
+      minimal = λ before after d q h. reduced-minimal r (λ b a e p i. not-nil b e a p) before after d q (subst (λ z. Implies z d) (sym (append-nil (before ++ after))) h);
     }

@@ -22,7 +22,7 @@ module _ (c : ℕ) (u v : Instance) (k : Core c u v) where
   -- each fact of the core comes from one of its facts, since it goes into what comes of them
   facts-onto : (f : Fact) → In f v → (g : Fact) × In g v × (f ≡ rename (k .goes .on) g)
   facts-onto f i =
-      let all = k .lean (map (rename (k .goes .on)) v) renamed-within (renaming c v (k .goes .on) (k .goes .fixes)) in
+      let all = k .minimal (map (rename (k .goes .on)) v) renamed-within (renaming c v (k .goes .on) (k .goes .fixes)) in
       in-map-inv (rename (k .goes .on)) v (in-within v (map (rename (k .goes .on)) v) all f i)
 
   numbers : List ℕ

@@ -17,19 +17,22 @@ use Rattle.matching.specs.Matches.{matches, not-empty}
 abbrev pub as-term : ℕ → ℕ → Term
 as-term c n = cond (ltb n c) (Constant n) (Variable (n - c))
 
+-- the atom that a fact is in a pattern
 abbrev pub as-atom : ℕ → Fact → Atom
 as-atom c f = record { relation = f .relation; terms = map (as-term c) (f .values) }
 
 -- whether there is a homomorphism: the facts of the first, read as atoms, have a match in the second
-unfoldable pub goes-into : ℕ → (from to : Instance) → Bool
-goes-into c from to = not-empty (matches (map (as-atom c) from) to [])
+unfoldable pub has-homomorphism : ℕ → (from to : Instance) → Bool
+has-homomorphism c from to = not-empty (matches (map (as-atom c) from) to [])
 
+-- whether two rows of values are the same
 abbrev pub same-values : List ℕ → List ℕ → Bool
 same-values [] [] = true
 same-values [] (n ∷ ns) = false
 same-values (m ∷ ms) [] = false
 same-values (m ∷ ms) (n ∷ ns) = eqb m n && same-values ms ns
 
+-- whether two facts are the same
 abbrev pub same-fact : Fact → Fact → Bool
 same-fact f g = eqb (f .relation) (g .relation) && same-values (f .values) (g .values)
 
@@ -45,7 +48,7 @@ distinct facts = distinct-from [] facts
 -- of the first `count` facts of `left`, from the last to the first, each goes without which the instance still goes into the rest
 unfoldable pub thinned : (c : ℕ) → Instance → (count : ℕ) → (left : Instance) → Instance
 thinned c u zero left = left
-thinned c u (suc i) left = thinned c u i (cond (goes-into c u (removed left i)) (removed left i) left)
+thinned c u (suc i) left = thinned c u i (cond (has-homomorphism c u (removed left i)) (removed left i) left)
 
 -- the core: facts that stand twice go, and then those that can be spared
 abbrev pub core : ℕ → Instance → Instance
@@ -60,11 +63,11 @@ Distinct (f ∷ facts) = (In f facts → ⊥) × Distinct facts
 pub record Core (c : ℕ) (u v : Instance) : Type 0 where
   pub within : Within v u
   pub goes : Homomorphism c u v
-  pub lean : (part : Instance) → Within part v → Homomorphism c v part → Within v part
+  pub minimal : (part : Instance) → Within part v → Homomorphism c v part → Within v part
 
 -- the test is right: whether an instance goes into another can be decided
-abbrev pub Goes-into-right : Type 0
-Goes-into-right = (c : ℕ) (from to : Instance) → Decides (goes-into c from to) (Homomorphism c from to)
+abbrev pub Homomorphism-tested : Type 0
+Homomorphism-tested = (c : ℕ) (from to : Instance) → Decides (has-homomorphism c from to) (Homomorphism c from to)
 
 -- the core is one, and no fact stands twice in it
 abbrev pub Core-right : Type 0

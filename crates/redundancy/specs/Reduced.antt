@@ -15,7 +15,8 @@ pub data Reduced : (stay rest result : List Dependency) → Type 0 where
 pub record Irredundant (ds result : List Dependency) : Type 0 where
   pub within : Within result ds
   pub same : (facts k : Instance) → (Solution facts ds k → Solution facts result k) × (Solution facts result k → Solution facts ds k)
-  pub lean : (before after : List Dependency) (d : Dependency) → result ≡ before ++ d ∷ after → Implies (before ++ after) d → ⊥
+  pub minimal : (before after : List Dependency) (d : Dependency) → result ≡ before ++ d ∷ after → Implies (before ++ after) d → ⊥
 
+-- leaving out one by one is right
 abbrev pub Reduced-right : Type 0
 Reduced-right = (ds result : List Dependency) → Reduced [] ds result → Irredundant ds result

@@ -1,5 +1,5 @@
 // Theorems on what can be left out, and on moving in two stages: each function's contract is one of them.
-ghost use Rattle.redundancy.specs.Cores.{Core-right, Core-universal, Cores-universal, Goes-into-right};
+ghost use Rattle.redundancy.specs.Cores.{Core-right, Core-universal, Cores-universal, Homomorphism-tested};
 ghost use Rattle.redundancy.specs.Implied.{Implied-at-universal, Implied-in-every-order, Implied-may-go, Implied-where-it-ends};
 ghost use Rattle.redundancy.specs.Reduced.{Reduced-right};
 ghost use Rattle.redundancy.specs.Tgds.{Only-tgds-tested, Tgds-never-fail, Tgds-only-add, Universal-carried};
@@ -90,8 +90,8 @@ pub fn two_stages_right() -> u8
 }
 
 // Whether an instance goes into another is decided by matching.
-pub fn goes_into_right() -> u8
-    ensures { λ _. ⌜ Goes-into-right ⌝ }
+pub fn homomorphism_tested() -> u8
+    ensures { λ _. ⌜ Homomorphism-tested ⌝ }
 {
     0
 }

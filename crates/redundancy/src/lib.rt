@@ -5,7 +5,7 @@ pub use laws::apart_tested;
 pub use laws::core_right;
 pub use laws::core_universal;
 pub use laws::cores_universal;
-pub use laws::goes_into_right;
+pub use laws::homomorphism_tested;
 pub use laws::implied_at_universal;
 pub use laws::implied_in_every_order;
 pub use laws::implied_may_go;

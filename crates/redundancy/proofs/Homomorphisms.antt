@@ -16,7 +16,7 @@ use Rattle.relational.proofs.Homomorphisms.{composed, restricted}
 use Rattle.matching.proofs.Bindings.{nothing-agrees}
 use Rattle.matching.proofs.Listed.{matches-exist}
 use Rattle.redundancy.specs.Implied.{frozen}
-use Rattle.redundancy.specs.Cores.{as-term, as-atom, goes-into, Goes-into-right}
+use Rattle.redundancy.specs.Cores.{as-term, as-atom, has-homomorphism, Homomorphism-tested}
 use Rattle.redundancy.proofs.Implied.{frozen-matches, thawing}
 
 abbrev pub as-atoms : ℕ → Instance → List Atom
@@ -64,17 +64,17 @@ goes-matched c u k g =
     let h : Homomorphism c (frozen c (as-atoms c u)) k = subst (λ z. Homomorphism c z k) (sym (atoms-back c u)) g in
     ((λ x. h .on (c + x)), matches-along c (frozen c (as-atoms c u)) k h (λ x. c + x) (as-atoms c u) (atoms-constants c u) (frozen-matches c (as-atoms c u)))
 
-pub goes-into-right : Goes-into-right
-unfolding goes-into
-goes-into-right c u k =
+pub homomorphism-tested : Homomorphism-tested
+unfolding has-homomorphism
+homomorphism-tested c u k =
     let d = matches-exist (as-atoms c u) k [] in (
       (λ e. let t = d .0 e in matched-goes c u k (t .0) (t .2)),
       λ g. let t = goes-matched c u k g in d .1 (t .0, nothing-agrees (t .0), t .1),
     )
 
 -- the same answer for a part into which the instance goes
-pub goes-into-part : (c : ℕ) (u part k : Instance) → Within part u → Homomorphism c u part → goes-into c u k ≡ goes-into c part k
-goes-into-part c u part k w g = go (goes-into c u k) (goes-into c part k) (goes-into-right c u k) (goes-into-right c part k)
+pub tested-from-part : (c : ℕ) (u part k : Instance) → Within part u → Homomorphism c u part → has-homomorphism c u k ≡ has-homomorphism c part k
+tested-from-part c u part k w g = go (has-homomorphism c u k) (has-homomorphism c part k) (homomorphism-tested c u k) (homomorphism-tested c part k)
   where
     go : (a b : Bool) → Decides a (Homomorphism c u k) → Decides b (Homomorphism c part k) → a ≡ b
     go true true d e = refl
