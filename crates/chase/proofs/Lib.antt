@@ -11,5 +11,6 @@ pub mod Ended
 mod Chasing
 mod Examples
 mod Loading
+mod Meant
 mod Moved
 mod Worked
