@@ -39,9 +39,10 @@ done-told c (Ok q) n before after h m = go (steps 128 c (q .dependencies) (worki
     go failed s = absurd s
     go (ready t) s =
         let k : n ≡ getD after 0 0 = s .0 ∙ sym (ap (λ (r : List ℕ). getD r 0 0) (s .1)) in
-        let e = same-request q (m .0) (m .1) in
-        (ap (λ (j : ℕ). fact-lines c (facts-in after j)) k ∙ ap (fact-lines c) (s .2)
-        , inl (stored after, subst (λ (p : Request). Universal c (p .facts) (p .dependencies) (stored after)) (sym e) (m .3), ap (fact-lines c) (sym (s .2))))
+        let e = same-request q (m .0) (m .1) in (
+          ap (λ (j : ℕ). fact-lines c (facts-in after j)) k ∙ ap (fact-lines c) (s .2),
+          inl (stored after, subst (λ (p : Request). Universal c (p .facts) (p .dependencies) (stored after)) (sym e) (m .3), ap (fact-lines c) (sym (s .2))),
+        )
 
 -- that there is no solution
 pub impossible-told : (c : ℕ) (reading : Result Request (ℕ × ℕ)) (before after : List ℕ) → Move-says c reading Impossible before after → Move-means c reading Impossible after →

@@ -52,13 +52,15 @@ impl Rows {
     // Room for so many atoms that are not there.
     pub fn room(&mut self, atoms: u64) -> Result<(), AllocError> {
         for _ in 0..atoms {
-            self.rules.extend_from_slice(&[0, 0, 0, 0, 0, 0, 0, 0, 0, 0])?;
+            self.rules
+                .extend_from_slice(&[0, 0, 0, 0, 0, 0, 0, 0, 0, 0])?;
         }
         Ok(())
     }
 
     pub fn atom(&mut self, relation: u64, terms: &[Term]) -> Result<(), AllocError> {
-        self.rules.extend_from_slice(&[relation, terms.len() as u64])?;
+        self.rules
+            .extend_from_slice(&[relation, terms.len() as u64])?;
         for term in terms {
             match *term {
                 Term::Constant(n) => self.rules.extend_from_slice(&[0, n])?,

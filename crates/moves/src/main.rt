@@ -129,11 +129,35 @@ fn already_there(heap: Global) -> Result<Rows, AllocError> {
 
 fn main(rt: LibcRuntime) -> io::Result<()> {
     let heap = rt.alloc();
-    println!(rt, "worked example: {}", told(heap, &persons(heap, 1)?, 100)?)?;
-    println!(rt, "with a second name: {}", told(heap, &persons(heap, 2)?, 100)?)?;
+    println!(
+        rt,
+        "worked example: {}",
+        told(heap, &persons(heap, 1)?, 100)?
+    )?;
+    println!(
+        rt,
+        "with a second name: {}",
+        told(heap, &persons(heap, 2)?, 100)?
+    )?;
     println!(rt, "no ranks: {}", told(heap, &chain(heap)?, 100)?)?;
-    println!(rt, "127 changing steps: {}", told(heap, &copies(heap, 63, false)?, 1000)?)?;
-    println!(rt, "a failure at step 128: {}", told(heap, &copies(heap, 63, true)?, 1000)?)?;
-    println!(rt, "64 facts, 16 dependencies: {}", told(heap, &paths(heap)?, 1000)?)?;
-    println!(rt, "head already there: {}", told(heap, &already_there(heap)?, 100)?)
+    println!(
+        rt,
+        "127 changing steps: {}",
+        told(heap, &copies(heap, 63, false)?, 1000)?
+    )?;
+    println!(
+        rt,
+        "a failure at step 128: {}",
+        told(heap, &copies(heap, 63, true)?, 1000)?
+    )?;
+    println!(
+        rt,
+        "64 facts, 16 dependencies: {}",
+        told(heap, &paths(heap)?, 1000)?
+    )?;
+    println!(
+        rt,
+        "head already there: {}",
+        told(heap, &already_there(heap)?, 100)?
+    )
 }
