@@ -10,5 +10,8 @@ pub use lines::push_fact;
 pub use lines::push_facts;
 pub use lines::push_impossible;
 pub use lines::push_refusal;
+pub use lines::push_row;
 pub use lines::push_value;
+pub use slices::behind;
+pub use stream::query_behind;
 pub use stream::rules_behind;
