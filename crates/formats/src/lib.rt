@@ -13,5 +13,6 @@ pub use lines::push_refusal;
 pub use lines::push_row;
 pub use lines::push_value;
 pub use slices::behind;
+pub use slices::split_first;
 pub use stream::query_behind;
 pub use stream::rules_behind;

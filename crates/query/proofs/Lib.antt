@@ -6,4 +6,5 @@ mod Outcomes
 mod Moved
 mod Reading
 pub mod Stored
+pub mod Widths
 pub mod Written
