@@ -3,7 +3,6 @@ ghost use Rattle.exchange.specs.Report.{Report-means, Stream-report-means, Tex
 ghost use Rattle.relational.specs.Readings.{request-reading};
 ghost use Rattle.std.specs.Of.String.{string-bytes};
 ghost use Rattle.std.specs.Vec.{made};
-ghost use lib.ListN.{drop, getD};
 ghost use mathlib.Core.List.{_++_};
 ghost use mathlib.Core.Path.{_≡_};
 use chase::Reply;
@@ -14,21 +13,11 @@ use formats::push_facts;
 use formats::push_impossible;
 use formats::push_refusal;
 use formats::rules_behind;
+use formats::split_first;
 use relational::INSTANCE_LEN;
 use std::alloc::AllocError;
 use std::alloc::Global;
 use std::fmt;
-
-// The first null, and the row of facts behind it.
-fn split_first(numbers: &[u64]) -> (u64, &[u64])
-    ensures first { λ r. ⌜ r .0 ≡ getD (now (numbers .entry)) 0 0 ⌝ }
-    ensures rest { λ r. ⌜ now (r .1) ≡ drop 1 (now (numbers .entry)) ⌝ }
-{
-    match numbers {
-        [first, rest @ ..] => (*first, rest),
-        [] => (0, numbers),
-    }
-}
 
 // Appends what a move of the facts is answered with: the facts of the universal solution, a line each, or why there is none.
 fn push_move(out: &mut String, facts: &[u64], rules: &[u64], c: u64) -> fmt::Result

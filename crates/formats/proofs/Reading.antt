@@ -7,7 +7,7 @@ use lib.ListN.{length, getD, take, drop}
 use borrow.Author.Tests.{le-leb, lt-leb}
 use Rattle.std.proofs.shelf.Lists.{take-rest}
 use Rattle.formats.specs.Bytes.{numbers-of}
-use Rattle.formats.specs.Stream.{few, facts-ahead}
+use Rattle.formats.specs.Stream.{few, facts-ahead, rules-ahead}
 
 -- the number that the first four bytes stand for
 abbrev pub number-of : List ℕ → ℕ
@@ -56,3 +56,18 @@ module _ (bytes : List ℕ) where
 
     pub ahead-many : 64 < n → 0 ≡ facts-ahead bytes
     ahead-many h = rw (second bytes long, ← is, lt-leb n 64 h)
+
+first : (bytes : List ℕ) → 4 ≤ length bytes → getD (numbers-of bytes) 0 0 ≡ number-of bytes
+first bytes h = ap (λ ns. getD ns 0 0) (numbers-split bytes h)
+
+-- the count of the rules is the first four bytes
+module _ (bytes : List ℕ) where
+  pub rules-missing : length bytes < 4 → 0 ≡ rules-ahead bytes
+  rules-missing h = rw (numbers-none bytes h) refl
+
+  module _ (n : ℕ) (long : 4 ≤ length bytes) (is : n ≡ number-of bytes) where
+    pub rules-few : n ≤ 16 → n ≡ rules-ahead bytes
+    rules-few h = rw (first bytes long, ← is, le-leb n 16 h)
+
+    pub rules-many : 16 < n → 0 ≡ rules-ahead bytes
+    rules-many h = rw (first bytes long, ← is, lt-leb n 16 h)

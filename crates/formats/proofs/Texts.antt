@@ -1,19 +1,19 @@
 -- One value or fact more in a text. Assumes nothing.
 use mathlib.Core.Path.{_≡_, ap, sym, _∙_}
-use mathlib.Core.List.{List, _++_, append-assoc, append-nil}
+use mathlib.Core.List.{List, [], _∷_, _++_, append-assoc, append-nil}
 use Prim.Native.Nat.{ℕ, suc, _+_, _-_, _*_, _≤_, _<_}
 use native.Mathlib.Numerals.{add-one}
 use native.Mathlib.Omega.{arith}
 use lib.Chars.{codes}
-use lib.ListN.{length, getD, drop}
-use Rattle.std.proofs.shelf.Lists.{drop-more, drop-all, drop-drop}
+use lib.ListN.{length, getD, take, drop}
+use Rattle.std.proofs.shelf.Lists.{drop-more, drop-all, drop-drop, take-rest}
 use Rattle.std.specs.Vec.{made}
 use Rattle.std.specs.Written.{decimal}
 use Rattle.std.specs.declared.result.Result.{Result}
 use Rattle.std.specs.declared.result.Result.the-variants.{Ok, Err}
 use Rattle.relational.specs.Instances.{Fact}
 use Rattle.relational.specs.Layout.{fact-in, facts-from}
-use Rattle.formats.specs.Lines.{value-text, values-text, fact-line, fact-lines}
+use Rattle.formats.specs.Lines.{value-text, values-text, fact-line, fact-lines, row-line}
 
 -- what was appended, told otherwise
 pub retold : {T E : Type 0} (r : Result T E) (before after told text : List ℕ) → told ≡ text → made r (λ _. after ≡ before ++ told) → made r (λ _. after ≡ before ++ text)
@@ -23,6 +23,12 @@ retold (Err y) before after told text e h = tt
 -- the three parts of a fact's line were appended
 pub fact-line-made : (c : ℕ) (f : Fact) (before relation values after : List ℕ) → relation ≡ before ++ (decimal (f .relation) ++ codes ":") → values ≡ relation ++ values-text c (f .values) → after ≡ values ++ codes "\n" → after ≡ before ++ fact-line c f
 fact-line-made c f before relation values after r v a = rw (a, v, r) (simp append-assoc)
+
+-- the three parts of a row's line were appended
+pub row-line-made : (c : ℕ) (row before first values after : List ℕ) → 1 ≤ length row → first ≡ before ++ value-text c (getD row 0 0) → values ≡ first ++ values-text c (take (length row - 1) (drop 1 row)) → after ≡ values ++ codes "\n" →
+    after ≡ before ++ row-line c row
+row-line-made c [] before first values after l f v a = absurd (omega arith)
+row-line-made c (n ∷ row) before first values after l f v a = rw (a, v, f, take-rest (n ∷ row) 1) (simp append-assoc)
 
 module _ (c : ℕ) (before whole : List ℕ) where
   -- the blank and the value at place i were appended

@@ -1,6 +1,6 @@
 -- The text that is printed.
 use mathlib.Core.Bool.{cond}
-use mathlib.Core.List.{List, _++_}
+use mathlib.Core.List.{List, [], _∷_, _++_}
 use Prim.Native.Nat.{ℕ, _-_}
 use lib.Chars.{codes}
 use lib.Dec.{ltb}
@@ -23,6 +23,15 @@ fact-line c f = decimal (f .relation) ++ (codes ":" ++ (values-text c (f .values
 -- a line a fact
 abbrev pub fact-lines : ℕ → List Fact → List ℕ
 fact-lines c facts = joined (fact-line c) facts
+
+-- the values of a row with one blank between them; where there is none the line is empty
+abbrev pub row-line : ℕ → List ℕ → List ℕ
+row-line c [] = codes "\n"
+row-line c (n ∷ values) = value-text c n ++ (values-text c values ++ codes "\n")
+
+-- a line a row
+abbrev pub row-lines : ℕ → List (List ℕ) → List ℕ
+row-lines c rows = joined (row-line c) rows
 
 -- which refusal, and at which place, as `refused 1 at 64`
 abbrev pub refusal-line : ℕ → ℕ → List ℕ

@@ -1,5 +1,5 @@
 // Values, facts and refusals as text. Only want of memory keeps a text from being appended.
-ghost use Rattle.formats.specs.Lines.{fact-line, fact-lines, impossible-line, refusal-line, value-text, values-text};
+ghost use Rattle.formats.specs.Lines.{fact-line, fact-lines, impossible-line, refusal-line, row-line, value-text, values-text};
 ghost use Rattle.relational.specs.Layout.{fact-in, facts-in};
 ghost use Rattle.relational.specs.Readings.{said};
 ghost use Rattle.std.specs.Of.String.{string-bytes};
@@ -66,6 +66,18 @@ pub fn push_facts(out: &mut String, row: &[u64], count: usize, c: u64) -> fmt::R
     Ok(())
 }
 
+// The values of a row with one blank between them, on a line of their own.
+pub fn push_row(out: &mut String, row: &[u64], c: u64) -> fmt::Result
+    ensures { λ r. ⌜ made r (λ _. string-bytes (now (out .exit)) ≡ string-bytes (now (out .entry)) ++ row-line c (now (row .entry))) ⌝ }
+{
+    let [first, rest @ ..] = row else {
+        return writeln!(out);
+    };
+    push_value(out, *first, c)?;
+    push_values(out, rest, c)?;
+    writeln!(out)
+}
+
 // The number and the place of a refusal.
 pub fn number_and_place(refusal: Refusal) -> (u64, u64)
     ensures { λ r. ⌜ r ≡ said refusal ⌝ }
@@ -99,7 +111,16 @@ pub fn push_impossible(out: &mut String) -> fmt::Result
 mod tests {
     use super::push_facts;
     use super::push_refusal;
+    use super::push_row;
     use std::test::*;
+
+    #[test]
+    fn a_line_a_row(rt: LibcRuntime) -> Result<(), Fail> {
+        let mut text = String::new(rt.alloc());
+        push_row(&mut text, &[50, 70], 100)?;
+        push_row(&mut text, &[], 100)?;
+        check(text.as_str() == "50 70\n\n")
+    }
 
     #[test]
     fn a_line_a_fact(rt: LibcRuntime) -> Result<(), Fail> {

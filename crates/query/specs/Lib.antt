@@ -3,4 +3,5 @@ pub mod Readings
 pub mod Answering
 pub mod Meaning
 pub mod Represented
+pub mod Certain
 pub mod Laws

@@ -1,5 +1,7 @@
 // Conjunctive queries: their answers in an instance, and which of them are certain.
+mod answer;
 mod ask;
+mod certain;
 mod laws;
 mod query;
 mod read;
@@ -8,7 +10,9 @@ mod rows;
 mod tests;
 mod values;
 
+pub use answer::Answer;
 pub use ask::answers;
+pub use certain::certain_answers;
 pub use laws::answers_along;
 pub use laws::certain_more;
 pub use laws::certain_universal;
