@@ -75,6 +75,7 @@ pub fn number_and_place(refusal: Refusal) -> (u64, u64)
         Refusal::Dependencies { at } => (2, at),
         Refusal::Constants { at } => (3, at),
         Refusal::Room { len } => (4, len),
+        Refusal::Unranked { at } => (8, at),
     }
 }
 
