@@ -7,5 +7,7 @@ pub mod Fired
 pub mod Merged
 pub mod Counted
 pub mod Limited
+pub mod Raising
+pub mod Gaps
 pub mod Ended
 mod Examples

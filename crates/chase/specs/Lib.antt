@@ -1,3 +1,5 @@
 pub mod Ranks
+pub mod Lowest
+pub mod Arcs
 pub mod Limit
 pub mod Ends

@@ -1,4 +1,4 @@
-mod Admitted
+pub mod Admitted
 pub mod Below
 pub mod Decidable
 pub mod Homomorphisms
