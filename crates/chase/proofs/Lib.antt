@@ -9,5 +9,7 @@ pub mod Counted
 pub mod Limited
 pub mod Raising
 pub mod Gaps
+pub mod Noted
+pub mod Edges
 pub mod Ended
 mod Examples
