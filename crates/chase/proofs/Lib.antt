@@ -11,5 +11,6 @@ pub mod Raising
 pub mod Gaps
 pub mod Noted
 pub mod Edges
+mod Listing
 pub mod Ended
 mod Examples
