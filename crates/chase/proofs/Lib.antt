@@ -13,4 +13,5 @@ pub mod Noted
 pub mod Edges
 mod Listing
 pub mod Ended
+pub mod Least
 mod Examples

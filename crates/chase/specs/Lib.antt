@@ -3,3 +3,4 @@ pub mod Lowest
 pub mod Arcs
 pub mod Limit
 pub mod Ends
+pub mod Ranking
