@@ -14,4 +14,5 @@ pub mod Edges
 mod Listing
 pub mod Ended
 pub mod Least
+mod Answered
 mod Examples
