@@ -15,4 +15,5 @@ mod Listing
 pub mod Ended
 pub mod Least
 mod Answered
+pub mod Decided
 mod Examples
