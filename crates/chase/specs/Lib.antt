@@ -1,6 +1,9 @@
 pub mod Ranks
+pub mod Lowest
+pub mod Arcs
 pub mod Limit
 pub mod Ends
 pub mod Moves
 pub mod Replies
 pub mod Worked
+pub mod Ranking

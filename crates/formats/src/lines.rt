@@ -90,6 +90,7 @@ pub fn number_and_place(refusal: Refusal) -> (u64, u64)
         Refusal::GivenUp { steps } => (5, steps),
         Refusal::Query { at } => (6, at),
         Refusal::Answers { count } => (7, count),
+        Refusal::Unranked { at } => (8, at),
     }
 }
 

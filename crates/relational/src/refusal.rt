@@ -7,7 +7,7 @@ pub enum Refusal {
     Dependencies { at: u64 },
     // The first null is above 2^32, or a number that came in is not a constant.
     Constants { at: u64 },
-    // The row for the instance is too short.
+    // The row for the instance, or for the ranks, is too short.
     Room { len: u64 },
     // The chase was given up after so many steps.
     GivenUp { steps: u64 },
@@ -15,4 +15,6 @@ pub enum Refusal {
     Query { at: u64 },
     // There is no room for the next answer.
     Answers { count: u64 },
+    // The dependencies up to this one have no ranks.
+    Unranked { at: u64 },
 }
