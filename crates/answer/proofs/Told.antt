@@ -47,16 +47,18 @@ module _ (facts rules query : List ℕ) (c : ℕ) where
   done-told n memory e m means =
       let s = means .0 in
       let text = text-is (Some (Ok n)) memory e m in
-      let rows = ap₂ {C = List (List ℕ)} (λ (w k : ℕ). rows-in w k (drop 1 memory)) (query-width query c (s .query) (s .query-read)) (s .count) in
-      (text, inl (record
-        { request = s .request
-        ; request-read = s .request-read
-        ; query = s .query
-        ; query-read = s .query-read
-        ; rows = rows-in (getD query 0 0) n (drop 1 memory)
-        ; certain = subst (Exactly-certain c (s .request .facts) (s .request .dependencies) (s .query)) rows (means .1)
-        ; is = sym text
-        }))
+      let rows = ap₂ {C = List (List ℕ)} (λ (w k : ℕ). rows-in w k (drop 1 memory)) (query-width query c (s .query) (s .query-read)) (s .count) in (
+        text,
+        inl (record {
+          request = s .request;
+          request-read = s .request-read;
+          query = s .query;
+          query-read = s .query-read;
+          rows = rows-in (getD query 0 0) n (drop 1 memory);
+          certain = subst (Exactly-certain c (s .request .facts) (s .request .dependencies) (s .query)) rows (means .1);
+          is = sym text;
+        }),
+      )
 
   -- that there is no solution
   pub impossible-told : (memory : List ℕ) → None ≡ certain-answering facts rules query room c .result → memory ≡ certain-answering facts rules query room c .memory →

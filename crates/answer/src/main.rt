@@ -24,12 +24,14 @@ fn read_and_report(rt: &LibcRuntime) -> Result<String, Failure> {
             let facts = read_file(rt, facts.as_str())?;
             let rules = read_file(rt, rules.as_str())?;
             let query = read_file(rt, query.as_str())?;
-            Ok(report(
-                rt.alloc(),
-                facts.as_slice(),
-                rules.as_slice(),
-                query.as_slice(),
-            )?)
+            Ok(
+                report(
+                    rt.alloc(),
+                    facts.as_slice(),
+                    rules.as_slice(),
+                    query.as_slice(),
+                )?,
+            )
         }
         _ => Err(Failure::Arguments),
     }

@@ -37,7 +37,13 @@ fn push_rows(out: &mut String, rows: &[u64], width: usize, count: usize, c: u64)
 }
 
 // Appends the certain answers of the query, a line each, or why there are none.
-fn push_answers(out: &mut String, facts: &[u64], rules: &[u64], query: &[u64], c: u64) -> fmt::Result
+fn push_answers(
+    out: &mut String,
+    facts: &[u64],
+    rules: &[u64],
+    query: &[u64],
+    c: u64,
+) -> fmt::Result
     ensures text { λ r. ⌜ made r (λ _. string-bytes (now (out .exit)) ≡ string-bytes (now (out .entry)) ++ answers-text (now (facts .entry)) (now (rules .entry)) (now (query .entry)) c) ⌝ }
     ensures means { λ _. ⌜ Text-means (now (facts .entry)) (now (rules .entry)) (now (query .entry)) c (answers-text (now (facts .entry)) (now (rules .entry)) (now (query .entry)) c) ⌝ }
 {
