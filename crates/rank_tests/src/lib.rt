@@ -85,7 +85,37 @@ mod tests {
         let mut row = [7; 962];
         check_eq(position_ranks(&rules, &mut row), Ok(10))?;
         let expected = [
-            10, 0, 0, 0, 0, 1, 0, 10, 0, 0, 10, 1, 1, 11, 0, 1, 11, 1, 0, 1, 0, 0, 1, 1, 0, 12, 0, 1, 12, 1, 0,
+            10,
+            0,
+            0,
+            0,
+            0,
+            1,
+            0,
+            10,
+            0,
+            0,
+            10,
+            1,
+            1,
+            11,
+            0,
+            1,
+            11,
+            1,
+            0,
+            1,
+            0,
+            0,
+            1,
+            1,
+            0,
+            12,
+            0,
+            1,
+            12,
+            1,
+            0,
         ];
         check(holds(&row, &expected))
     }
@@ -180,7 +210,11 @@ mod tests {
             rules[at + 1] = 3;
             rules[at + 32] = 2;
             for a in 0..5 {
-                let from = if a < 3 { at + 10 * a + 2 } else { at + 10 * a + 3 };
+                let from = if a < 3 {
+                    at + 10 * a + 2
+                } else {
+                    at + 10 * a + 3
+                };
                 put_four(rules, from, 5 * i as u64 + a as u64, 4 * (a as u64 % 4));
             }
         }
