@@ -21,4 +21,4 @@ mod Examples
 mod Loading
 mod Meant
 mod Moved
-mod Worked
+pub mod Worked

@@ -8,3 +8,4 @@ mod Reading
 pub mod Stored
 pub mod Widths
 pub mod Written
+mod Worked

@@ -5,3 +5,4 @@ pub mod Meaning
 pub mod Represented
 pub mod Certain
 pub mod Laws
+pub mod Worked

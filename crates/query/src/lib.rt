@@ -19,6 +19,7 @@ pub use laws::certain_universal;
 pub use laws::no_solution_more;
 pub use laws::rows_exact;
 pub use laws::universal_same;
+pub use laws::worked_answers;
 pub use query::Query;
 pub use query::Row;
 pub use read::read_query;
