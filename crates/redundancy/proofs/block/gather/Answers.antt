@@ -11,14 +11,14 @@ use Rattle.redundancy.proofs.block.gather.Goals.{then-not-are_apart, else-not-ar
 pub loop-i-init : goal.loop-i-init
 loop-i-init c = (scan_begin _ _ _ _ _ _ c.requires.arranged c.requires.within, omega arith)
 
-pub offset-bounds-facts-order : goal.offset-bounds-facts-order
-offset-bounds-facts-order c = omega (arith, c.loop-i.invariant.0.arranged.places c.loop-i.i (omega arith), length-map c.args.facts.now fact_of)
+pub offset_bounds-facts-order : goal.offset_bounds-facts-order
+offset_bounds-facts-order c = omega (arith, c.loop-i.invariant.0.arranged.places c.loop-i.i (omega arith), length-map c.args.facts.now fact_of)
 
 pub bounds-facts-order : goal.bounds-facts-order
 bounds-facts-order c = omega (arith, c.loop-i.invariant.0.arranged.places c.loop-i.i (omega arith), length-map c.args.facts.now fact_of)
 
-pub offset-bounds-facts-order-in-loop-i : goal.offset-bounds-facts-order-in-loop-i
-offset-bounds-facts-order-in-loop-i c =
+pub offset_bounds-facts-order-in-loop-i : goal.offset_bounds-facts-order-in-loop-i
+offset_bounds-facts-order-in-loop-i c =
     let s = c.loop-i.invariant.0 in
     omega (arith, s.arranged.places c.args.k (omega (arith, s.looking, s.arranged.few)), length-map c.args.facts.now fact_of)
 

@@ -28,8 +28,8 @@ returns-in_default-len c =
       means = refused_means c.args.c _ _ c.args.out.now;
     }
 
-pub slice-bounds-publish-end : goal.slice-bounds-publish-end
-slice-bounds-publish-end c =
+pub slice_bounds-publish-end : goal.slice_bounds-publish-end
+slice_bounds-publish-end c =
     let read = c.read_distinct-count.new.facts in
     let count = c.read_distinct-count.result in
     omega (arith, length-append c.thin-count.new.facts (drop (count - 0) read), length-take (count - 0) read, length-drop (count - 0) read, c.thin-count.ensures.few, c.thin-count.auto.facts)
