@@ -14,6 +14,7 @@ pub mod Edges
 mod Listing
 pub mod Ended
 pub mod Chasing
+pub mod Halted
 pub mod Least
 mod Answered
 pub mod Decided

@@ -3,6 +3,7 @@ pub mod Lowest
 pub mod Arcs
 pub mod Limit
 pub mod Ends
+pub mod Halts
 pub mod Moves
 pub mod Replies
 pub mod Worked
