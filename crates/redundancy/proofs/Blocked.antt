@@ -1,17 +1,17 @@
 -- Whether facts share a null; and the order of places in which a block comes first.
-use Rattle.std.proofs.Common.{◌≡◌, ℕ, ◌+◌, ◌-◌, ◌<◌, ◌≤◌, Bool, eqb, ◌⊎◌, List, length, get_or, take, Decides, sym, ap, ◌∙◌, subst, inl, inr, arith}
+use Rattle.std.proofs.Common.{◌≡◌, ℕ, ◌+◌, ◌<◌, ◌≤◌, Bool, eqb, ◌⊎◌, List, length, get_or, take, Decides, sym, ap, ◌∙◌, subst, inl, inr, arith}
 use Rattle.std.specs.List.{IsAnyAnswer}
 use Rattle.std.proofs.lemmas.List.Elements.{contains_decides}
 use Rattle.std.proofs.lemmas.List.{length-take-le, length-drop, get_or-take, get_or-drop}
 use Rattle.std.proofs.lemmas.Bool.{cases_eq}
-use Rattle.relational.specs.Instances.{In, there, Fact, Instance}
+use Rattle.relational.specs.Instances.{In, Fact, Instance}
 use Rattle.relational.proofs.Members.{in_at, in_place}
 use Rattle.redundancy.specs.Mappings.{no_fact, Places}
 use Rattle.redundancy.specs.Blocks.{NoSharedNull, Block, Arranged}
 use Rattle.std.proofs.lemmas.Bool.Decides.{Decides-eqb}
 
 -- WHETHER FACTS ARE APART
-pub contained : (xs : List ℕ) (x : ℕ) (r : Bool) → IsAnyAnswer (λ (y : ℕ) (t : Bool). Decides t (y ≡ x)) xs r → Decides r (In x xs)
+pub contained : (xs : List ℕ) (x : ℕ) (r : Bool) → IsAnyAnswer (λ (y : ℕ) (t : Bool). eqb y x ≡ t) xs r → Decides r (In x xs)
 contained xs x r h =
     let d = contains_decides eqb Decides-eqb xs x r h in (
       (λ e. let t = d.0 e in subst (λ z. In z xs) (t.2 0) (in_at xs t.0 0 t.1)),

@@ -1,9 +1,8 @@
 -- Small examples of homomorphisms, cores, implied tgds and second stages, by computation.
-use Rattle.std.proofs.Common.{◌≡◌, ℕ, ◌<◌, true, false, List, [], ◌∷◌, get_or, refl, ap, subst}
+use Rattle.std.proofs.Common.{◌≡◌, ℕ, true, List, [], ◌∷◌, get_or, refl, ap, subst}
 use Rattle.std.proofs.lemmas.Bool.{both_ways, eqb-false, ltb-true}
-use Rattle.relational.specs.declared.term.Term.{Term}
-use Rattle.relational.specs.declared.term.Term.TheVariants.{Constant, Variable}
-use Rattle.relational.specs.Instances.{In, here, there, Within, Fact, Instance, Atom, Mentions, Dependency, tgd, ConstantsBelow, DependencyBelow, DependenciesBelow}
+use Rattle.relational.specs.declared.term.Term.TheVariants.{Variable}
+use Rattle.relational.specs.Instances.{here, Fact, Instance, Atom, tgd, DependencyBelow}
 use Rattle.relational.specs.Solutions.{Homomorphism}
 use Rattle.relational.specs.Terms.{term_small, terms_small}
 use Rattle.relational.specs.Tests.{every}
@@ -13,8 +12,7 @@ use Rattle.relational.proofs.Testing.{every_in}
 use Rattle.matching.specs.Bindings.{put}
 use Rattle.matching.specs.Matches.{match_terms, match_atom, matches_over, matches}
 use Rattle.trigger.specs.Violations.{violation_among, first_from}
-use Rattle.trigger.specs.Steps.{State, Stage, working, ready, number_terms, number_atoms, mend, steps}
-use Rattle.redundancy.specs.Tgds.{is_tgd, OnlyTgds}
+use Rattle.trigger.specs.Steps.{State, working, ready, number_terms, number_atoms, mend, steps}
 use Rattle.redundancy.specs.Implied.{Implies, Tells, VariablesBelow, frozen_from, has_frozen_head, frozen_start}
 use Rattle.redundancy.specs.TwoStages.{Apart, may_follow}
 use Rattle.redundancy.specs.Cores.{Core, has_homomorphism, distinct_from, thinned, core}

@@ -1,5 +1,5 @@
 -- Small examples of homomorphisms, cores, implied tgds and second stages: each of these holds somewhere and fails somewhere. Numbers below 100 are constants.
-use Rattle.std.specs.Prelude.{◌≡◌, ℕ, List, [], ◌∷◌}
+use Rattle.std.specs.Prelude.{◌≡◌, ℕ, [], ◌∷◌}
 use Rattle.relational.specs.declared.term.Term.TheVariants.{Constant, Variable}
 use Rattle.relational.specs.Instances.{Fact, Instance, Atom, Dependency, tgd}
 use Rattle.relational.specs.Solutions.{Homomorphism}

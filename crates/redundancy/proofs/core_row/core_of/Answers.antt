@@ -7,7 +7,7 @@ use Rattle.redundancy.proofs.core_row.core_of.Goals as goal
 
 pub returns-in_err-facts : goal.returns-in_err-facts
 returns-in_err-facts c =
-    let p = err_from_is_err_and c.from-residual.result c.from-residual.ensures.1 in
+    let p = err_from_is_err_and c.from_residual.result c.from_residual.ensures.1 in
     rw (p.1, p.2)
     (record {
       says = refused_says c.args.c _ _ c.args.out.now (reading_none c.args.instance.now (length c.args.out.now) c.args.c _ c.in_err-facts.ensures.reading);

@@ -50,8 +50,8 @@ loop-i-preserved c =
           (distinct_old facts seen c.loop-i.i f l is (sym w.if-not-stands.false ∙ told) ∙ c.loop-i.invariant.0, omega (arith, c.loop-i.invariant.1), c.loop-i.invariant.2)
     ]
 
-pub shape-of-facts : goal.shape-of-facts
-shape-of-facts c = c.loop-i.invariant.2
+pub shape_of-facts : goal.shape_of-facts
+shape_of-facts c = c.loop-i.invariant.2
 
 pub returns : goal.returns
 returns c =

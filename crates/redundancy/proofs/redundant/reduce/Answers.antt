@@ -6,7 +6,7 @@ use Rattle.redundancy.proofs.Reducing.{reduction_answer, reduction_refused, redu
 use Rattle.redundancy.proofs.redundant.reduce.Goals as goal
 
 pub returns-in_err-tgds : goal.returns-in_err-tgds
-returns-in_err-tgds c = record { says = search rules; means = reduction_refused c.args.rules.now c.from-residual.result c.from-residual.ensures.0 }
+returns-in_err-tgds c = record { says = search rules; means = reduction_refused c.args.rules.now c.from_residual.result c.from_residual.ensures.0 }
 
 pub returns-in-Some : goal.returns-in-Some
 unfolding ReductionMeans

@@ -23,8 +23,8 @@ loop-i-preserved c =
     let inv = c.loop-i.invariant in
     (stays c.args.c _ c.loop-i.facts c.loop-i.count c.loop-i.i (omega arith) inv.0 c.can_spare.result c.can_spare.ensures c.if-can_spare.false, omega (arith, inv.1), inv.2, inv.3)
 
-pub shape-of-facts : goal.shape-of-facts
-shape-of-facts c = c.loop-i.invariant.3
+pub shape_of-facts : goal.shape_of-facts
+shape_of-facts c = c.loop-i.invariant.3
 
 pub returns : goal.returns
 returns c = record { value = sparing_end c.args.c (map fact_of c.args.facts.now) c.loop-i.i _ c.loop-i.invariant.0 (omega arith); few = c.loop-i.invariant.2 }
