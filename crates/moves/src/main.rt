@@ -1,62 +1,10 @@
 // Runs moves at the boundaries of the chase, and mistakes that a chase could make, each as a small case.
 #![tactic(auto)]
 
-mod build;
-mod stages;
-
-use build::Rows;
-use chase::{Reply, move_facts};
+use move_rows::{Rows, persons, told};
 use relational::Term::{Constant, Variable};
-use relational::{INSTANCE_LEN, Refusal};
 use std::alloc::{AllocError, Global};
 use std::io;
-
-// The reply in words.
-fn in_words(heap: Global, reply: Reply) -> Result<String, AllocError> {
-    match reply {
-        Reply::Done(count) => format!(in heap; "done {count}"),
-        Reply::Impossible => String::from_str(heap, "impossible"),
-        Reply::Refused(Refusal::Dependencies { at }) => format!(in heap; "refused 2 at {at}"),
-        Reply::Refused(Refusal::GivenUp { steps }) => format!(in heap; "refused 5 at {steps}"),
-        Reply::Refused(_) => String::from_str(heap, "refused"),
-    }
-}
-
-fn told(heap: Global, rows: &Rows, c: u64) -> Result<String, AllocError> {
-    let mut out = [0; INSTANCE_LEN];
-    let reply = move_facts(rows.facts.as_slice(), rows.rules.as_slice(), &mut out, c);
-    in_words(heap, reply)
-}
-
-// The worked example; dependencies behind its four may follow.
-fn persons(heap: Global, names: u64, dependencies: u64) -> Result<Rows, AllocError> {
-    let mut rows = Rows::new(heap, names.saturating_add(2), dependencies)?;
-    for n in 0..names {
-        rows.fact(0, &[1, 50 + n % 2])?;
-    }
-    rows.fact(1, &[1, 70])?;
-    rows.fact(1, &[2, 71])?;
-    rows.tgd(1)?;
-    rows.atom(0, &[Variable(0), Variable(1)])?;
-    rows.room(2)?;
-    rows.head(2)?;
-    rows.atom(10, &[Variable(0), Variable(2)])?;
-    rows.atom(11, &[Variable(2), Variable(1)])?;
-    rows.tgd(1)?;
-    rows.atom(1, &[Variable(0), Variable(1)])?;
-    rows.room(2)?;
-    rows.head(2)?;
-    rows.atom(10, &[Variable(0), Variable(2)])?;
-    rows.atom(12, &[Variable(2), Variable(1)])?;
-    for relation in 10..12 {
-        rows.egd(2)?;
-        rows.atom(relation, &[Variable(0), Variable(1)])?;
-        rows.atom(relation, &[Variable(0), Variable(2)])?;
-        rows.room(1)?;
-        rows.equated(1, 2)?;
-    }
-    Ok(rows)
-}
 
 // Facts 0(i) and 5(1 2), a copy of each 0(i) in two relations, and of 5(1 2) in a third: 2 n + 1 steps; with `clash`, 1 and 2 are then made equal.
 fn copies(heap: Global, n: u64, clash: bool) -> Result<Rows, AllocError> {
@@ -159,6 +107,5 @@ fn main(rt: HostRuntime) -> io::Result<()> {
     println!(rt;
         "head already there: {}",
         told(heap, &already_there(heap)?, 100)?
-    )?;
-    stages::run(&rt)
+    )
 }

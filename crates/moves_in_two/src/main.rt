@@ -1,6 +1,7 @@
-// Moves in two stages.
-use crate::build::Rows;
-use crate::{in_words, persons, told};
+// Runs moves in two stages at the boundaries of the chase.
+#![tactic(auto)]
+
+use move_rows::{Rows, in_words, persons, told};
 use redundancy::move_in_two;
 use relational::INSTANCE_LEN;
 use relational::Term::Variable;
@@ -53,7 +54,7 @@ fn named(heap: Global) -> Result<Rows, AllocError> {
     Ok(rows)
 }
 
-pub fn run(rt: &HostRuntime) -> io::Result<()> {
+fn main(rt: HostRuntime) -> io::Result<()> {
     let heap = rt.alloc();
     let named = named(heap)?;
     println!(rt;
