@@ -14,7 +14,7 @@ struct Parts {
 fn parts_of(heap: Global, body: &[Atom], head: &[Atom]) -> Result<Parts, AllocError> {
     let body = variables(heap, body)?;
     let mut head = variables(heap, head)?;
-    head.sort();
+    head.sort()?;
     head.dedup();
     let mut frontier = 0u64;
     let mut existential = 0u64;
@@ -62,7 +62,7 @@ fn count_numbers(heap: Global, case: &Case) -> Result<u64, AllocError> {
         put_constants(&mut numbers, dependency.body())?;
         put_constants(&mut numbers, dependency.head())?;
     }
-    numbers.sort();
+    numbers.sort()?;
     numbers.dedup();
     Ok(numbers.len() as u64)
 }
