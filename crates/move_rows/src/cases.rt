@@ -22,8 +22,12 @@ pub fn told(heap: Global, rows: &Rows, c: u64) -> Result<String, AllocError> {
     in_words(heap, reply)
 }
 
+pub fn persons(heap: Global, names: u64) -> Result<Rows, AllocError> {
+    persons_and_more(heap, names, 4)
+}
+
 // The worked example; dependencies behind its four may follow.
-pub fn persons(heap: Global, names: u64, dependencies: u64) -> Result<Rows, AllocError> {
+pub fn persons_and_more(heap: Global, names: u64, dependencies: u64) -> Result<Rows, AllocError> {
     let mut rows = Rows::new(heap, names.saturating_add(2), dependencies)?;
     for n in 0..names {
         rows.fact(0, &[1, 50 + n % 2])?;

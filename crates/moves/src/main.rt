@@ -83,13 +83,10 @@ fn already_there(heap: Global) -> Result<Rows, AllocError> {
 
 fn main(rt: HostRuntime) -> io::Result<()> {
     let heap = rt.alloc();
-    println!(rt;
-        "worked example: {}",
-        told(heap, &persons(heap, 1, 4)?, 100)?
-    )?;
+    println!(rt; "worked example: {}", told(heap, &persons(heap, 1)?, 100)?)?;
     println!(rt;
         "with a second name: {}",
-        told(heap, &persons(heap, 2, 4)?, 100)?
+        told(heap, &persons(heap, 2)?, 100)?
     )?;
     println!(rt; "no ranks: {}", told(heap, &chain(heap)?, 100)?)?;
     println!(rt;

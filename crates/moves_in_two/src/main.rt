@@ -1,7 +1,7 @@
 // Runs moves in two stages at the boundaries of the chase.
 #![tactic(auto)]
 
-use move_rows::{Rows, in_words, persons, told};
+use move_rows::{Rows, in_words, persons_and_more, told};
 use redundancy::move_in_two;
 use relational::INSTANCE_LEN;
 use relational::Term::Variable;
@@ -43,7 +43,7 @@ fn copies(heap: Global, n: u64, to: u64) -> Result<Rows, AllocError> {
 
 // The worked example, and behind it 10(x0 x1), 11(x1 x2) → 20(x0 x2): objects with the names of their makers.
 fn named(heap: Global) -> Result<Rows, AllocError> {
-    let mut rows = persons(heap, 1, 5)?;
+    let mut rows = persons_and_more(heap, 1, 5)?;
     rows.tgd(2)?;
     rows.atom(10, &[Variable(0), Variable(1)])?;
     rows.atom(11, &[Variable(1), Variable(2)])?;
