@@ -1,10 +1,10 @@
 -- The text for what a call for certain answers is answered with.
-use Rattle.std.proofs.Common.{◌≡◌, ℕ, suc, ◌+◌, ◌-◌, ◌<◌, ◌≤◌, min, List, ◌++◌, length, get_or, take, drop, Some, None, Ok, Err, Option, Result, sym, refl, ap, ◌∙◌, subst, ap₂, inl, inr, append_assoc, append-nil, arith}
+use Rattle.std.proofs.Common.{◌≡◌, ℕ, suc, ◌+◌, ◌-◌, ◌<◌, ◌≤◌, min, List, ◌++◌, length, get_or, take, drop, Some, None, Ok, Err, Option, Result, sym, ap, ◌∙◌, subst, ap₂, inl, inr, append_assoc, append-nil, arith}
 use Rattle.relational.specs.Readings.{said}
 use Rattle.relational.specs.declared.refusal.Refusal.{Refusal}
 use Rattle.query.specs.Answering.{rows_in}
 use Rattle.query.specs.Certain.{certain_answering, ExactlyCertain, AllCertain, CertainMeans}
-use Rattle.query.specs.declared.answer.Answer.TheVariants.{Done, Impossible, Refused}
+use Rattle.query.specs.declared.answer.Answer.TheVariants.{Done, Impossible}
 use Rattle.query.proofs.Widths.{query_width}
 use Rattle.formats.specs.Lines.{row_line, row_lines, refusal_line, impossible_line}
 use Rattle.formats.proofs.Parts.{take_min}

@@ -1,5 +1,5 @@
 -- The text for what a move is answered with.
-use Rattle.std.proofs.Common.{◌≡◌, ℕ, ◌⊎◌, List, length, get_or, Ok, Err, Result, sym, refl, ap, ◌∙◌, subst, ap₂, inl, inr, arith}
+use Rattle.std.proofs.Common.{◌≡◌, ℕ, ◌⊎◌, List, get_or, Ok, Err, Result, sym, refl, ap, ◌∙◌, subst, inl, inr}
 use Rattle.relational.specs.Instances.{Instance}
 use Rattle.relational.specs.Layout.{facts_in}
 use Rattle.relational.specs.Readings.{Request, said}

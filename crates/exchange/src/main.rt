@@ -8,6 +8,7 @@ mod report;
 use failure::Failure;
 use input::{arguments, read_file, read_standard_input};
 use report::{report, stream_report};
+use std::process::ExitCode;
 
 fn read_and_report(rt: &HostRuntime) -> Result<String, Failure> {
     let words = arguments(rt)?;
@@ -34,10 +35,12 @@ fn run(rt: &HostRuntime) -> Result<(), Failure> {
 }
 
 // A failure is told in one line on standard error, and ends the program with status 1.
-fn main(rt: HostRuntime) -> Result<(), Failure> {
-    let result = run(&rt);
-    if let Err(failure) = &result {
-        let _ = eprintln!(rt; "exchange: {failure}");
+fn main(rt: HostRuntime) -> ExitCode {
+    match run(&rt) {
+        Ok(()) => ExitCode::SUCCESS,
+        Err(failure) => {
+            let _ = eprintln!(rt; "exchange: {failure}");
+            ExitCode::FAILURE
+        }
     }
-    result
 }

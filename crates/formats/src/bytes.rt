@@ -25,7 +25,7 @@ mod tests {
     #[test]
     fn low_byte_first(rt: HostRuntime) -> Result<(), Fail> {
         let read = numbers(rt.alloc(), &[1, 2, 0, 0, 255, 255, 255, 255, 7, 7, 7])?;
-        assert!(rt; read.as_slice() == &[513, 4294967295]);
+        assert!(rt; read.as_slice() == [513, 4294967295].as_slice());
         Ok(())
     }
 }

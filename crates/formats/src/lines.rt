@@ -6,10 +6,10 @@ ghost use Rattle.std.specs.Prelude.{◌≡◌, ◌++◌, string_bytes, OnOk};
 
 use crate::slices::behind;
 use relational::Refusal;
-use std::fmt;
+use std::alloc::AllocError;
 
 // A constant as its number, a null counted from `c` behind a question mark.
-pub fn push_value(out: &mut String, n: u64, c: u64) -> fmt::Result
+pub fn push_value(out: &mut String, n: u64, c: u64) -> Result<(), AllocError>
     ensures { OnOk result (string_bytes out.new ≡ string_bytes out.old ++ value_text c n) }
 {
     if n < c {
@@ -21,7 +21,7 @@ pub fn push_value(out: &mut String, n: u64, c: u64) -> fmt::Result
 }
 
 // Each value behind a blank.
-fn push_values(out: &mut String, values: &[u64], c: u64) -> fmt::Result
+fn push_values(out: &mut String, values: &[u64], c: u64) -> Result<(), AllocError>
     ensures { OnOk result (string_bytes out.new ≡ string_bytes out.old ++ values_text c values.now) }
 {
     for value in values {
@@ -43,7 +43,7 @@ fn values_of(fact: &[u64]) -> &[u64]
 }
 
 // The fact that `fact` begins with, on a line of its own.
-pub fn push_fact(out: &mut String, fact: &[u64], c: u64) -> fmt::Result
+pub fn push_fact(out: &mut String, fact: &[u64], c: u64) -> Result<(), AllocError>
     ensures { OnOk result (string_bytes out.new ≡ string_bytes out.old ++ fact_line c (fact_in fact.now)) }
 {
     let relation = fact.first().copied().unwrap_or(0);
@@ -53,7 +53,7 @@ pub fn push_fact(out: &mut String, fact: &[u64], c: u64) -> fmt::Result
 }
 
 // The first `count` facts of `row`, which stand behind its first number.
-pub fn push_facts(out: &mut String, row: &[u64], count: usize, c: u64) -> fmt::Result
+pub fn push_facts(out: &mut String, row: &[u64], count: usize, c: u64) -> Result<(), AllocError>
     ensures { OnOk result (string_bytes out.new ≡ string_bytes out.old ++ fact_lines c (facts_in row.now count)) }
 {
     let mut rest = behind(row, 1);
@@ -65,7 +65,7 @@ pub fn push_facts(out: &mut String, row: &[u64], count: usize, c: u64) -> fmt::R
 }
 
 // The values of a row with one blank between them, on a line of their own.
-pub fn push_row(out: &mut String, row: &[u64], c: u64) -> fmt::Result
+pub fn push_row(out: &mut String, row: &[u64], c: u64) -> Result<(), AllocError>
     ensures { OnOk result (string_bytes out.new ≡ string_bytes out.old ++ row_line c row.now) }
 {
     let [first, rest @ ..] = row else {
@@ -93,14 +93,14 @@ pub fn number_and_place(refusal: Refusal) -> (u64, u64)
 }
 
 // The line of a refusal.
-pub fn push_refusal(out: &mut String, number: u64, place: u64) -> fmt::Result
+pub fn push_refusal(out: &mut String, number: u64, place: u64) -> Result<(), AllocError>
     ensures { OnOk result (string_bytes out.new ≡ string_bytes out.old ++ refusal_line number place) }
 {
     writeln!(out, "refused {number} at {place}")
 }
 
 // The line that says that there is no solution.
-pub fn push_impossible(out: &mut String) -> fmt::Result
+pub fn push_impossible(out: &mut String) -> Result<(), AllocError>
     ensures { OnOk result (string_bytes out.new ≡ string_bytes out.old ++ impossible_line) }
 {
     writeln!(out, "impossible")

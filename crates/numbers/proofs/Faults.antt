@@ -1,8 +1,8 @@
 -- The first fault of a text. Assumes nothing.
 use Rattle.std.proofs.Common.{◌≡◌, ℕ, ◌+◌, ◌-◌, ◌*◌, ◌^◌, Bool, true, false, cond, eqb, ltb, List, [], ◌∷◌, ◌++◌, Ok, Err, Result, sym, refl, ap, ◌∙◌, arith}
 use Rattle.std.specs.Char.{is_ascii_digit}
-use Rattle.numbers.specs.Meaning.{Says, line_ends, FirstFault}
-use Rattle.numbers.specs.Reading.{blank, after_number, after, closed, before, ends_after, onward, read_from}
+use Rattle.numbers.specs.Meaning.{line_ends, FirstFault}
+use Rattle.numbers.specs.Reading.{blank, after_number, after, closed, before, ends_after, read_from}
 use Rattle.numbers.specs.declared.inside.Inside.{Inside}
 use Rattle.numbers.specs.declared.inside.Inside.TheVariants.{Nothing, Number, Comment}
 use Rattle.numbers.specs.declared.refusal.Fault.{Fault}

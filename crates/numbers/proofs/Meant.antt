@@ -1,5 +1,5 @@
 -- What the answers mean. Assumes nothing.
-use Rattle.std.proofs.Common.{◌≡◌, ℕ, ◌*◌, ◌%◌, ◌^◌, ◌<◌, List, [], ◌∷◌, length, get_or, Ok, Err, Result, sym, refl, ap, ◌∙◌, subst, arith}
+use Rattle.std.proofs.Common.{◌≡◌, ℕ, ◌*◌, ◌%◌, ◌^◌, ◌<◌, List, [], ◌∷◌, length, get_or, Ok, Err, Result, sym, refl, ap, ◌∙◌, arith}
 use Rattle.formats.specs.Bytes.{numbers_of}
 use Rattle.numbers.specs.Meaning.{Says, FirstFault, BytesFor, TextFor}
 use Rattle.numbers.specs.Reading.{read, in_bytes, encoded}

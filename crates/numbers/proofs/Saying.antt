@@ -1,16 +1,15 @@
 -- A text that says numbers is read as these. Assumes nothing.
-use Rattle.std.proofs.Common.{◌≡◌, ℕ, ◌+◌, ◌-◌, ◌*◌, ◌^◌, ◌<◌, ◌≤◌, Bool, true, false, cond, eqb, ltb, List, [], ◌∷◌, ◌++◌, Ok, Err, Result, sym, refl, ap, ◌∙◌, append-nil, arith}
+use Rattle.std.proofs.Common.{◌≡◌, ℕ, ◌+◌, ◌-◌, ◌*◌, ◌^◌, ◌<◌, ◌≤◌, Bool, true, false, cond, eqb, List, [], ◌∷◌, ◌++◌, Ok, Err, Result, sym, refl, ap, ◌∙◌, append-nil, arith}
 use Rattle.std.proofs.lemmas.Bool.{ne_eqb, lt-ltb}
 use Rattle.std.proofs.lemmas.Bool.Decides.{nat_tests}
 use Rattle.std.specs.Str.Parse.{AllDigits, IsNumeral, digits_value, digits_value_after}
 use Rattle.std.specs.Char.{is_ascii_digit, digit_value}
 use Rattle.numbers.specs.Meaning.{NoDigitFirst, InOneLine, Says, no_more, gap, comment, last_comment, numeral}
-use Rattle.numbers.specs.Reading.{blank, with_digit, after_number, after, closed, before, ends_after, onward, read_from}
+use Rattle.numbers.specs.Reading.{blank, after_number, after, closed, before, ends_after, onward, read_from}
 use Rattle.numbers.specs.declared.inside.Inside.{Inside}
 use Rattle.numbers.specs.declared.inside.Inside.TheVariants.{Nothing, Number, Comment}
 use Rattle.numbers.specs.declared.refusal.Fault.{Fault}
 use Rattle.numbers.specs.declared.refusal.Fault.TheVariants.{Character}
-use Rattle.numbers.specs.declared.refusal.Refusal.{Refusal}
 
 pub before_none : {E : Type 0} (r : Result (List ℕ) E) → before [] r ≡ r
 before_none (Ok ns) = refl

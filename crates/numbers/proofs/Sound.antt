@@ -1,5 +1,5 @@
 -- What is read of a text is what it says. Assumes nothing.
-use Rattle.std.proofs.Common.{◌≡◌, ℕ, suc, ◌+◌, ◌-◌, ◌*◌, ◌^◌, ◌<◌, ◌≤◌, Bool, true, false, cond, eqb, ltb, List, [], ◌∷◌, ◌++◌, length, Ok, Err, Result, sym, refl, ap, ◌∙◌, subst, arith}
+use Rattle.std.proofs.Common.{◌≡◌, ℕ, ◌+◌, ◌-◌, ◌*◌, ◌^◌, ◌<◌, Bool, true, false, cond, eqb, ltb, List, [], ◌∷◌, ◌++◌, Ok, Err, Result, sym, refl, ap, ◌∙◌, arith}
 use Rattle.std.proofs.lemmas.Bool.{eqb-true, eqb-false, ltb-true}
 use Rattle.std.proofs.lemmas.Bool.Decides.{nat_tests}
 use Rattle.std.specs.Str.Parse.{AllDigits, digits_value_after}
@@ -11,7 +11,7 @@ use Rattle.numbers.specs.declared.inside.Inside.TheVariants.{Nothing, Number, Co
 use Rattle.numbers.specs.declared.refusal.Fault.{Fault}
 use Rattle.numbers.specs.declared.refusal.Fault.TheVariants.{TooLarge, Character}
 use Rattle.numbers.specs.declared.refusal.Refusal.{Refusal}
-use Rattle.numbers.proofs.Saying.{one_on, number_ends, after_no_digit, after_blank}
+use Rattle.numbers.proofs.Saying.{one_on, number_ends, after_no_digit}
 
 -- digits go on with the number n, and behind them the text says numbers
 pub record DigitsOn (n : ℕ) (text ns : List ℕ) : Type 0 where

@@ -1,5 +1,5 @@
 -- Which failure is told of a text or of bytes.
-use Rattle.std.specs.Prelude.{◌≡◌, ℕ, ◌%◌, List, length, Ok, Err, Result, ◌≢◌}
+use Rattle.std.specs.Prelude.{◌≡◌, ℕ, ◌%◌, List, length, Err, Result, ◌≢◌}
 use Rattle.numbers.specs.declared.failure.Failure.{Failure}
 use Rattle.numbers.specs.declared.failure.Failure.TheVariants.{Arguments, Input, Unwritable, Text, CutShort, Memory}
 use Rattle.numbers.specs.declared.refusal.Refusal.{Refusal}

@@ -2,7 +2,7 @@
 use Rattle.std.specs.Prelude.{◌≡◌, ℕ, ◌+◌, ◌*◌, ◌^◌, ◌<◌, true, false, cond, List, [], ◌∷◌, ◌++◌, length, Ok, ◌==◌, ◌≢◌}
 use Rattle.std.specs.Str.Parse.{IsNumeral, digits_value}
 use Rattle.std.specs.Char.{is_ascii_digit}
-use Rattle.std.specs.List.{AllByRecursion as All}
+use Rattle.std.specs.List.{AllByRecursion}
 use Rattle.formats.specs.Bytes.{numbers_of}
 use Rattle.numbers.specs.Reading.{blank, encoded}
 use Rattle.numbers.specs.Writing.{decoded}
@@ -18,7 +18,7 @@ NoDigitFirst (c ∷ text) = is_ascii_digit c ≡ false
 
 -- no line ends in these characters
 abbrev pub InOneLine : List ℕ → Type 0
-InOneLine words = All (λ c. c ≢ 10) words
+InOneLine words = AllByRecursion (λ c. c ≢ 10) words
 
 -- a text says numbers: it has blanks, comments that a number sign (35) begins and a line end or the end of the text ends, and numerals of numbers below 2^32, each as long as its digits go
 pub data Says : (text ns : List ℕ) → Type 0 where

@@ -6,11 +6,10 @@ ghost use Rattle.std.specs.Prelude.{◌≡◌, ◌%◌, ◌++◌, length, Ok, Er
 
 use crate::failure::Failure;
 use formats::numbers;
-use std::alloc::Global;
-use std::fmt;
+use std::alloc::{AllocError, Global};
 
 // Each number on a line of its own.
-fn push_lines(out: &mut String, numbers: &[u64]) -> fmt::Result
+fn push_lines(out: &mut String, numbers: &[u64]) -> Result<(), AllocError>
     ensures { OnOk result (string_bytes out.new ≡ string_bytes out.old ++ lines_of numbers.now) }
 {
     for n in numbers {
@@ -29,10 +28,8 @@ pub fn decode(heap: Global, bytes: &[u8]) -> Result<String, Failure>
     }
     let numbers = numbers(heap, bytes)?;
     let mut text = String::new(heap);
-    match push_lines(&mut text, numbers.as_slice()) {
-        Ok(()) => Ok(text),
-        Err(_) => Err(Failure::Memory),
-    }
+    push_lines(&mut text, numbers.as_slice())?;
+    Ok(text)
 }
 
 #[cfg(test)]
@@ -47,7 +44,7 @@ mod tests {
         let text = decode(rt.alloc(), &[1, 2, 0, 0, 255, 255, 255, 255])?;
         assert!(rt; text.as_str() == "513\n4294967295\n");
         let bytes = encode(rt.alloc(), text.as_bytes())?;
-        assert!(rt; bytes.as_slice() == &[1, 2, 0, 0, 255, 255, 255, 255]);
+        assert!(rt; bytes.as_slice() == [1, 2, 0, 0, 255, 255, 255, 255].as_slice());
         Ok(())
     }
 

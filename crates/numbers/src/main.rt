@@ -11,6 +11,7 @@ use failure::Failure;
 use input::{arguments, read_file, read_standard_input};
 use lines::decode;
 use std::io::Write;
+use std::process::ExitCode;
 use text::encode;
 
 // The bytes of the one file that is named, or of standard input where none is.
@@ -46,10 +47,12 @@ fn run(rt: &HostRuntime) -> Result<(), Failure> {
 }
 
 // A failure is told in one line on standard error, and ends the program with status 1.
-fn main(rt: HostRuntime) -> Result<(), Failure> {
-    let result = run(&rt);
-    if let Err(failure) = &result {
-        let _ = eprintln!(rt; "numbers: {failure}");
+fn main(rt: HostRuntime) -> ExitCode {
+    match run(&rt) {
+        Ok(()) => ExitCode::SUCCESS,
+        Err(failure) => {
+            let _ = eprintln!(rt; "numbers: {failure}");
+            ExitCode::FAILURE
+        }
     }
-    result
 }

@@ -69,11 +69,11 @@ mod tests {
         let heap = rt.alloc();
         let text = "513 # a comment\r\n\t4294967295#another\n00007";
         let bytes = encode(heap, text.as_bytes())?;
-        assert!(rt; bytes.as_slice() == &[1, 2, 0, 0, 255, 255, 255, 255, 7, 0, 0, 0]);
+        assert!(rt; bytes.as_slice() == [1, 2, 0, 0, 255, 255, 255, 255, 7, 0, 0, 0].as_slice());
         let empty = encode(heap, &[])?;
-        assert!(rt; empty.as_slice() == &[]);
+        assert!(rt; empty.as_slice() == [].as_slice());
         let comment = encode(heap, "1 # no line end".as_bytes())?;
-        assert!(rt; comment.as_slice() == &[1, 0, 0, 0]);
+        assert!(rt; comment.as_slice() == [1, 0, 0, 0].as_slice());
         Ok(())
     }
 

@@ -1,4 +1,4 @@
-use Rattle.std.proofs.Common.{ℕ, sym, ap, ◌∙◌}
+use Rattle.std.proofs.Common.{ℕ, ap, ◌∙◌, rules}
 use Rattle.formats.proofs.Texts.{retold}
 use Rattle.formats.specs.Lines.{refusal_line}
 use Rattle.exchange.proofs.Told.{done_told, impossible_told, refused_told}
@@ -12,7 +12,7 @@ returns-in-Done c =
 pub returns-in-Impossible : goal.returns-in-Impossible
 returns-in-Impossible c =
     let t = impossible_told c.args.c _ _ c.move_facts.new.out c.in-Impossible.ensures.says c.in-Impossible.ensures.means in
-    record { text = retold c.push_impossible.result _ _ _ _ t.0 c.push_impossible.ensures; means = t.1 }
+    record { text = rw (← t.0) (search rules); means = t.1 }
 
 pub returns-in-Refused : goal.returns-in-Refused
 returns-in-Refused c =
