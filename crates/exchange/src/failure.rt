@@ -1,20 +1,31 @@
 // What keeps the program from printing a text.
-ghost use Rattle.exchange.specs.declared.failure.Failure.TheVariants.{Input, Memory};
-ghost use Rattle.std.specs.Prelude.{◌≡◌};
+ghost use Rattle.exchange.specs.declared.failure.Failure.TheVariants.{Arguments, Memory, Unreadable, Unwritable};
+ghost use Rattle.std.specs.Prelude.{◌≡◌, string_bytes};
 
-use input::InputError;
-use std::alloc::AllocError;
+use std::alloc::{AllocError, Global};
 use std::{fmt, io};
 
 #[derive(Drop)]
 pub enum Failure {
     // There is another number of arguments than none or two.
     Arguments,
-    // The arguments or the input cannot be read.
-    Input(InputError),
+    // A file, standard input or the arguments cannot be read.
+    Unreadable { source: String, error: io::Error },
     // Standard output cannot be written.
     Unwritable(io::Error),
     Memory,
+}
+
+impl Failure {
+    // The failure to read from `source`, unless there is no memory for its name.
+    pub fn unreadable(heap: Global, source: &str, error: io::Error) -> Failure
+        ensures { elim result [ Arguments ↦ ⊥ | Unreadable s e ↦ (string_bytes s ≡ source.now) × (e ≡ error) | Unwritable e ↦ ⊥ | Memory ↦ Unit {0} ] }
+    {
+        match String::from_str(heap, source) {
+            Ok(source) => Failure::Unreadable { source, error },
+            Err(_) => Failure::Memory,
+        }
+    }
 }
 
 impl From<AllocError> for Failure {
@@ -22,14 +33,6 @@ impl From<AllocError> for Failure {
 
     fn from(_error: AllocError) -> Failure {
         Failure::Memory
-    }
-}
-
-impl From<InputError> for Failure {
-    ghost from_gives = { λ e r. r ≡ Input e };
-
-    fn from(error: InputError) -> Failure {
-        Failure::Input(error)
     }
 }
 
@@ -41,7 +44,7 @@ impl fmt::Display for Failure {
                 f,
                 "give a file of facts and a file of rules, or neither and both on standard input"
             ),
-            Failure::Input(error) => write!(f, "{error}"),
+            Failure::Unreadable { source, error } => write!(f, "cannot read {source}: {error}"),
             Failure::Unwritable(error) => write!(f, "cannot write standard output: {error}"),
             Failure::Memory => write!(f, "out of memory"),
         }

@@ -3,6 +3,7 @@
 #![tactic(auto)]
 
 mod failure;
+mod input;
 mod report;
 
 use failure::Failure;
