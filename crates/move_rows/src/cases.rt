@@ -6,20 +6,14 @@ use relational::{INSTANCE_LEN, Refusal};
 use std::alloc::{AllocError, Global};
 
 // The reply in words.
-pub fn in_words(heap: Global, reply: Reply) -> Result<String, AllocError> {
-    match reply {
+pub fn told(heap: Global, rows: &Rows, c: u64) -> Result<String, AllocError> {
+    let mut out = [0; INSTANCE_LEN];
+    match move_facts(rows.facts.as_slice(), rows.rules.as_slice(), &mut out, c) {
         Reply::Done(count) => format!(in heap; "done {count}"),
         Reply::Impossible => String::from_str(heap, "impossible"),
-        Reply::Refused(Refusal::Dependencies { at }) => format!(in heap; "refused 2 at {at}"),
         Reply::Refused(Refusal::GivenUp { steps }) => format!(in heap; "refused 5 at {steps}"),
         Reply::Refused(_) => String::from_str(heap, "refused"),
     }
-}
-
-pub fn told(heap: Global, rows: &Rows, c: u64) -> Result<String, AllocError> {
-    let mut out = [0; INSTANCE_LEN];
-    let reply = move_facts(rows.facts.as_slice(), rows.rules.as_slice(), &mut out, c);
-    in_words(heap, reply)
 }
 
 pub fn persons(heap: Global, names: u64) -> Result<Rows, AllocError> {

@@ -5,4 +5,4 @@ mod build;
 mod cases;
 
 pub use build::Rows;
-pub use cases::{in_words, persons, persons_and_more, told};
+pub use cases::{persons, persons_and_more, told};

@@ -1,13 +1,15 @@
 // Runs moves in two stages at the boundaries of the chase.
 #![tactic(auto)]
 
-use move_rows::{Rows, in_words, persons_and_more, told};
+use chase::Reply;
+use move_rows::{Rows, persons_and_more, told};
 use redundancy::move_in_two;
-use relational::INSTANCE_LEN;
 use relational::Term::Variable;
+use relational::{INSTANCE_LEN, Refusal};
 use std::alloc::{AllocError, Global};
 use std::io;
 
+// The reply of a move in two stages in words.
 fn told_in_two(heap: Global, rows: &Rows, first: usize) -> Result<String, AllocError> {
     let mut out = [0; INSTANCE_LEN];
     let reply = move_in_two(
@@ -17,7 +19,13 @@ fn told_in_two(heap: Global, rows: &Rows, first: usize) -> Result<String, AllocE
         &mut out,
         1000,
     );
-    in_words(heap, reply)
+    match reply {
+        Reply::Done(count) => format!(in heap; "done {count}"),
+        Reply::Impossible => String::from_str(heap, "impossible"),
+        Reply::Refused(Refusal::Dependencies { at }) => format!(in heap; "refused 2 at {at}"),
+        Reply::Refused(Refusal::GivenUp { steps }) => format!(in heap; "refused 5 at {steps}"),
+        Reply::Refused(_) => String::from_str(heap, "refused"),
+    }
 }
 
 // from(x0) → to(x0)
