@@ -10,18 +10,13 @@ use formats::{
 };
 use query::{Answer, certain_answers};
 use std::alloc::{AllocError, Global};
+use std::fmt;
 
 // Room for the count of the answers and 16,384 answers of four values.
 const ROOM: usize = 65537;
 
 // The first `count` rows of a width, a line each.
-fn push_rows(
-    out: &mut String,
-    rows: &[u64],
-    width: usize,
-    count: usize,
-    c: u64,
-) -> Result<(), AllocError>
+fn push_rows(out: &mut String, rows: &[u64], width: usize, count: usize, c: u64) -> fmt::Result
     ensures { OnOk result (string_bytes out.new ≡ string_bytes out.old ++ row_lines c (rows_in width count rows.now)) }
 {
     let mut rest = rows;
@@ -39,7 +34,7 @@ fn push_answers(
     rules: &[u64],
     query: &[u64],
     c: u64,
-) -> Result<(), AllocError>
+) -> fmt::Result
     ensures text { OnOk result (string_bytes out.new ≡ string_bytes out.old ++ answers_text facts.now rules.now query.now c) }
     ensures means { TextMeans facts.now rules.now query.now c (answers_text facts.now rules.now query.now c) }
 {
@@ -67,8 +62,10 @@ pub fn report(heap: Global, facts: &[u8], rules: &[u8], query: &[u8]) -> Result<
     let query = numbers(heap, query)?;
     let (c, row) = split_first(facts.as_slice());
     let mut text = String::new(heap);
-    push_answers(&mut text, row, rules.as_slice(), query.as_slice(), c)?;
-    Ok(text)
+    match push_answers(&mut text, row, rules.as_slice(), query.as_slice(), c) {
+        Ok(()) => Ok(text),
+        Err(_) => Err(AllocError),
+    }
 }
 
 // The text for one stream, where the rules stand behind the facts and the query behind the rules.

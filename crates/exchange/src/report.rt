@@ -9,9 +9,10 @@ use formats::{
 };
 use relational::INSTANCE_LEN;
 use std::alloc::{AllocError, Global};
+use std::fmt;
 
 // Appends what a move of the facts is answered with: the facts of the universal solution, a line each, or why there is none.
-fn push_move(out: &mut String, facts: &[u64], rules: &[u64], c: u64) -> Result<(), AllocError>
+fn push_move(out: &mut String, facts: &[u64], rules: &[u64], c: u64) -> fmt::Result
     ensures text { OnOk result (string_bytes out.new ≡ string_bytes out.old ++ request_text c (request_reading facts.now rules.now 1921 c)) }
     ensures means { TextMeans c (request_reading facts.now rules.now 1921 c) (request_text c (request_reading facts.now rules.now 1921 c)) }
 {
@@ -35,8 +36,10 @@ pub fn report(heap: Global, facts: &[u8], rules: &[u8]) -> Result<String, AllocE
     let rules = numbers(heap, rules)?;
     let (c, row) = split_first(facts.as_slice());
     let mut text = String::new(heap);
-    push_move(&mut text, row, rules.as_slice(), c)?;
-    Ok(text)
+    match push_move(&mut text, row, rules.as_slice(), c) {
+        Ok(()) => Ok(text),
+        Err(_) => Err(AllocError),
+    }
 }
 
 // The text for one stream, where the rules stand behind the facts.

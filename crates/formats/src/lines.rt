@@ -6,22 +6,22 @@ ghost use Rattle.std.specs.Prelude.{◌≡◌, ◌++◌, string_bytes, OnOk};
 
 use crate::slices::behind;
 use relational::Refusal;
-use std::alloc::AllocError;
+use std::fmt;
 
 // A constant as its number, a null counted from `c` behind a question mark.
-pub fn push_value(out: &mut String, n: u64, c: u64) -> Result<(), AllocError>
+pub fn push_value(out: &mut String, n: u64, c: u64) -> fmt::Result
     ensures { OnOk result (string_bytes out.new ≡ string_bytes out.old ++ value_text c n) }
 {
     if n < c {
-        write!(out, "{n}")
+        Ok(write!(out, "{n}")?)
     } else {
         let null = n - c;
-        write!(out, "?{null}")
+        Ok(write!(out, "?{null}")?)
     }
 }
 
 // Each value behind a blank.
-fn push_values(out: &mut String, values: &[u64], c: u64) -> Result<(), AllocError>
+fn push_values(out: &mut String, values: &[u64], c: u64) -> fmt::Result
     ensures { OnOk result (string_bytes out.new ≡ string_bytes out.old ++ values_text c values.now) }
 {
     for value in values {
@@ -43,17 +43,17 @@ fn values_of(fact: &[u64]) -> &[u64]
 }
 
 // The fact that `fact` begins with, on a line of its own.
-pub fn push_fact(out: &mut String, fact: &[u64], c: u64) -> Result<(), AllocError>
+pub fn push_fact(out: &mut String, fact: &[u64], c: u64) -> fmt::Result
     ensures { OnOk result (string_bytes out.new ≡ string_bytes out.old ++ fact_line c (fact_in fact.now)) }
 {
     let relation = fact.first().copied().unwrap_or(0);
     write!(out, "{relation}:")?;
     push_values(out, values_of(fact), c)?;
-    writeln!(out)
+    Ok(writeln!(out)?)
 }
 
 // The first `count` facts of `row`, which stand behind its first number.
-pub fn push_facts(out: &mut String, row: &[u64], count: usize, c: u64) -> Result<(), AllocError>
+pub fn push_facts(out: &mut String, row: &[u64], count: usize, c: u64) -> fmt::Result
     ensures { OnOk result (string_bytes out.new ≡ string_bytes out.old ++ fact_lines c (facts_in row.now count)) }
 {
     let mut rest = behind(row, 1);
@@ -65,15 +65,15 @@ pub fn push_facts(out: &mut String, row: &[u64], count: usize, c: u64) -> Result
 }
 
 // The values of a row with one blank between them, on a line of their own.
-pub fn push_row(out: &mut String, row: &[u64], c: u64) -> Result<(), AllocError>
+pub fn push_row(out: &mut String, row: &[u64], c: u64) -> fmt::Result
     ensures { OnOk result (string_bytes out.new ≡ string_bytes out.old ++ row_line c row.now) }
 {
     let [first, rest @ ..] = row else {
-        return writeln!(out);
+        return Ok(writeln!(out)?);
     };
     push_value(out, *first, c)?;
     push_values(out, rest, c)?;
-    writeln!(out)
+    Ok(writeln!(out)?)
 }
 
 // The number and the place of a refusal.
@@ -93,17 +93,17 @@ pub fn number_and_place(refusal: Refusal) -> (u64, u64)
 }
 
 // The line of a refusal.
-pub fn push_refusal(out: &mut String, number: u64, place: u64) -> Result<(), AllocError>
+pub fn push_refusal(out: &mut String, number: u64, place: u64) -> fmt::Result
     ensures { OnOk result (string_bytes out.new ≡ string_bytes out.old ++ refusal_line number place) }
 {
-    writeln!(out, "refused {number} at {place}")
+    Ok(writeln!(out, "refused {number} at {place}")?)
 }
 
 // The line that says that there is no solution.
-pub fn push_impossible(out: &mut String) -> Result<(), AllocError>
+pub fn push_impossible(out: &mut String) -> fmt::Result
     ensures { OnOk result (string_bytes out.new ≡ string_bytes out.old ++ impossible_line) }
 {
-    writeln!(out, "impossible")
+    Ok(writeln!(out, "impossible")?)
 }
 
 #[cfg(test)]
