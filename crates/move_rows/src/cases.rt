@@ -16,11 +16,12 @@ pub fn told(heap: Global, rows: &Rows, c: u64) -> Result<String, AllocError> {
     }
 }
 
+// The worked example, its maker under so many names.
 pub fn persons(heap: Global, names: u64) -> Result<Rows, AllocError> {
     persons_and_more(heap, names, 4)
 }
 
-// The worked example; dependencies behind its four may follow.
+// The same, where dependencies may follow behind its four.
 pub fn persons_and_more(heap: Global, names: u64, dependencies: u64) -> Result<Rows, AllocError> {
     let mut rows = Rows::new(heap, names.saturating_add(2), dependencies)?;
     for n in 0..names {
