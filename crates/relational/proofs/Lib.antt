@@ -1,5 +1,6 @@
 pub mod Admitted
 pub mod Below
+pub mod Closing
 pub mod Decidable
 pub mod Homomorphisms
 pub mod Kept

@@ -2,6 +2,7 @@ pub mod Tests
 pub mod Instances
 pub mod Terms
 pub mod Solutions
+pub mod Elements
 pub mod Represented
 pub mod Layout
 pub mod Readings

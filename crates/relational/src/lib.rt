@@ -2,6 +2,7 @@
 #![tactic(auto)]
 
 mod atom;
+mod bounded;
 mod check;
 mod dependency;
 mod fact;
@@ -14,6 +15,7 @@ mod term;
 mod write;
 
 pub use atom::Atom;
+pub use bounded::Bounded;
 pub use check::{
     FACTS_MAX, FIRST_NULL_MAX, INSTANCE_FACTS_MAX, INSTANCE_LEN, check_facts, constants_fault,
     read_dependencies, read_request,
