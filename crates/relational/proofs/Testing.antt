@@ -1,7 +1,9 @@
 -- A loop that tests the elements of a list one by one.
-use Rattle.std.proofs.Common.{◌≡◌, ℕ, suc, ◌+◌, ◌<◌, ◌≤◌, Bool, true, false, cond, ◌&&◌, ◌||◌, List, [], ◌∷◌, map, length, get_or, drop, Some, None, sym, refl, ap, ⊎_elim, arith}
+use Rattle.std.proofs.Common.{◌≡◌, ℕ, suc, ◌+◌, ◌<◌, ◌≤◌, Bool, true, false, cond, not, ltb, leb, ◌&&◌, ◌||◌, List, [], ◌∷◌, map, length, get_or, drop, Some, None, Option, sym, refl, ap, ◌∙◌, ap₂, ⊎_elim, arith}
 use Rattle.std.proofs.lemmas.List.{drop_more, drop_all}
-use Rattle.std.proofs.lemmas.Bool.{and_parts, or_cases, false≢true}
+use Rattle.std.proofs.Math.Dec.{leb-suc-suc}
+use Rattle.std.proofs.lemmas.Bool.{le-leb, and_parts, or_cases, false≢true}
+use Rattle.std.specs.List.{position, position_or_len}
 use Rattle.relational.specs.Instances.{In, here, there}
 use Rattle.relational.specs.Tests.{any, every, first_failing}
 use Rattle.relational.proofs.Members.{in_at}
@@ -32,6 +34,38 @@ any_map t f (x ∷ xs) = ap (λ b. t (f x) || b) (any_map t f xs)
 pub every_map : {A B : Type 0} (t : B → Bool) (f : A → B) (xs : List A) → every t (map f xs) ≡ every (λ x. t (f x)) xs
 every_map t f [] = refl
 every_map t f (x ∷ xs) = ap (λ b. t (f x) && b) (every_map t f xs)
+
+-- the place of the first that fails, as a search for the first that does not pass finds it
+failing_place : {A B : Type 0} (t : B → Bool) (f : A → B) (xs : List A) (i : ℕ) →
+    first_failing t (map f xs) i ≡ cond (ltb (position_or_len (λ x. not (t (f x))) xs) (length xs)) (Some (i + position_or_len (λ x. not (t (f x))) xs)) None
+failing_place t f [] i = refl
+failing_place {A} {B} t f (x ∷ xs) i = go (t (f x)) refl (position_or_len (λ y. not (t (f y))) xs) (failing_place t f xs (suc i))
+  where
+    go : (b : Bool) → t (f x) ≡ b → (rest : ℕ) → first_failing t (map f xs) (suc i) ≡ cond (ltb rest (length xs)) (Some (suc i + rest)) None →
+        cond b (first_failing t (map f xs) (suc i)) (Some i) ≡ cond (ltb (cond (not (not b)) (1 + rest) 0) (suc (length xs))) (Some (i + cond (not (not b)) (1 + rest) 0)) None
+    go true e rest ih =
+        let s : 1 + rest ≡ suc rest = omega arith in
+        let j : suc i + rest ≡ i + (1 + rest) = omega arith in
+        ih ∙ ap₂ {C = Option ℕ} (λ (b : Bool) (k : ℕ). cond b (Some k) None) (sym (ap (λ (k : ℕ). leb (suc k) (suc (length xs))) s ∙ leb-suc-suc (suc rest) (length xs))) j
+    go false e rest ih =
+        let l = le-leb 1 (suc (length xs)) (omega arith) in
+        let j : i ≡ i + 0 = omega arith in
+        ap₂ {C = Option ℕ} (λ (b : Bool) (k : ℕ). cond b (Some k) None) (sym l) j
+
+module _ {A B : Type 0} (t : B → Bool) (f : A → B) (xs : List A) (i : ℕ) (found : Option ℕ) (is : found ≡ position (λ x. not (t (f x))) xs) where
+  pub placed_none : found ≡ None → None ≡ first_failing t (map f xs) i
+  placed_none e = go (ltb (position_or_len (λ x. not (t (f x))) xs) (length xs)) _ is ∙ sym (failing_place t f xs i)
+    where
+      go : (b : Bool) (rest : ℕ) → found ≡ cond b (Some rest) None → None ≡ cond b (Some (i + rest)) None
+      go true rest h = let z : ◌≡◌ {A = ℕ} 0 1 = cc in absurd (omega arith)
+      go false rest h = refl
+
+  pub placed_some : (place : ℕ) → found ≡ Some place → Some (i + place) ≡ first_failing t (map f xs) i
+  placed_some place e = go (ltb (position_or_len (λ x. not (t (f x))) xs) (length xs)) _ is ∙ sym (failing_place t f xs i)
+    where
+      go : (b : Bool) (rest : ℕ) → found ≡ cond b (Some rest) None → Some (i + place) ≡ cond b (Some (i + rest)) None
+      go true rest h = let z : rest ≡ place = cc in ap (λ (k : ℕ). Some (i + k)) (sym z)
+      go false rest h = let z : ◌≡◌ {A = ℕ} 0 1 = cc in absurd (omega arith)
 
 -- a loop that looks for the first that fails
 module _ {A : Type 0} (t : A → Bool) (xs : List A) (i at : ℕ) where

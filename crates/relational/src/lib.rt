@@ -7,6 +7,7 @@ mod check;
 mod dependency;
 mod fact;
 mod inspect;
+mod instance;
 mod laws;
 mod read;
 mod refusal;
@@ -23,8 +24,9 @@ pub use check::{
 pub use dependency::{Body, Dependency, Equated, Head};
 pub use fact::Fact;
 pub use inspect::{mentions, values_below};
+pub use instance::Instance;
 pub use laws::{no_solution_of_more, universal_equivalent};
-pub use read::used_term;
+pub use read::read_terms;
 pub use refusal::Refusal;
 pub use request::{Dependencies, Facts, Request};
 pub use term::Term;
