@@ -6,6 +6,7 @@ pub mod Homomorphisms
 pub mod Kept
 pub mod Maps
 pub mod Members
+pub mod Parts
 pub mod Reading
 pub mod Rows
 pub mod Testing

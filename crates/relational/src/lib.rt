@@ -24,7 +24,7 @@ pub use check::{
 pub use dependency::{Body, Dependency, Equated, Head};
 pub use fact::Fact;
 pub use inspect::{mentions, values_below};
-pub use instance::Instance;
+pub use instance::{Instance, fact_values};
 pub use laws::{no_solution_of_more, universal_equivalent};
 pub use read::read_terms;
 pub use refusal::Refusal;
