@@ -24,7 +24,7 @@ pub use dependency::{Body, Dependency, Equated, Head};
 pub use fact::Fact;
 pub use inspect::{mentions, values_below};
 pub use laws::{no_solution_of_more, universal_equivalent};
-pub use read::used_term;
+pub use read::{read_terms, used_term};
 pub use refusal::Refusal;
 pub use request::{Dependencies, Facts, Request};
 pub use term::Term;
