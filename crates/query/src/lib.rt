@@ -1,7 +1,6 @@
 // Conjunctive queries: their answers in an instance, and which of them are certain.
 #![tactic(auto)]
 
-mod answer;
 mod ask;
 mod certain;
 mod laws;
@@ -12,7 +11,6 @@ mod rows;
 mod tests;
 mod values;
 
-pub use answer::Answer;
 pub use ask::answers;
 pub use certain::certain_answers;
 pub use laws::{

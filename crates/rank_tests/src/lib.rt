@@ -1,6 +1,8 @@
 // Ranks of the positions of small lists of dependencies, run.
 #![tactic(auto)]
 
+ghost use Rattle.std.specs.Prelude.{◌+◌, ◌*◌, ◌<◌, ◌≤◌, length};
+
 #[cfg(test)]
 mod tests {
     use chase::{RANKS_LEN, position_ranks};
@@ -9,66 +11,55 @@ mod tests {
     // Ranks and room for one number more.
     type Row = [u64; 962];
 
-    // Dependencies of two numbers an atom: their count, and room for four.
-    type Rules = [u64; 213];
-
     // Puts relation(x y) at a place of the rules.
-    fn put_atom(rules: &mut [u64], at: usize, relation: u64, x: u64, y: u64) {
-        if at < 1000 && at + 6 <= rules.len() {
-            rules[at] = relation;
-            rules[at + 1] = 2;
-            rules[at + 2] = 1;
-            rules[at + 3] = x;
-            rules[at + 4] = 1;
-            rules[at + 5] = y;
-        }
+    fn put_atom(rules: &mut [u64], at: usize, relation: u64, x: u64, y: u64)
+        requires { at + 6 ≤ length rules.old }
+    {
+        rules[at..at + 6].copy_from_slice(&[relation, 2, 1, x, 1, y]);
     }
 
     // Makes dependency i from(x0 x1) → 10(x0 x2), to(x2 x1).
-    fn put_person(rules: &mut Rules, i: usize, from: u64, to: u64) {
-        if i < 4 {
-            let at = 53 * i + 1;
-            rules[at + 1] = 1;
-            put_atom(rules, at + 2, from, 0, 1);
-            rules[at + 32] = 2;
-            put_atom(rules, at + 33, 10, 0, 2);
-            put_atom(rules, at + 43, to, 2, 1);
-        }
+    fn put_person(rules: &mut [u64], i: usize, from: u64, to: u64)
+        requires { 53 * i + 54 ≤ length rules.old }
+    {
+        let at = 53 * i + 1;
+        rules[at + 1] = 1;
+        put_atom(rules, at + 2, from, 0, 1);
+        rules[at + 32] = 2;
+        put_atom(rules, at + 33, 10, 0, 2);
+        put_atom(rules, at + 43, to, 2, 1);
     }
 
     // Makes dependency i relation(x0 x1), relation(x0 x2) → x1 = x2.
-    fn put_key(rules: &mut Rules, i: usize, relation: u64) {
-        if i < 4 {
-            let at = 53 * i + 1;
-            rules[at] = 1;
-            rules[at + 1] = 2;
-            put_atom(rules, at + 2, relation, 0, 1);
-            put_atom(rules, at + 12, relation, 0, 2);
-            rules[at + 32] = 1;
-            rules[at + 33] = 2;
-        }
+    fn put_key(rules: &mut [u64], i: usize, relation: u64)
+        requires { 53 * i + 54 ≤ length rules.old }
+    {
+        let at = 53 * i + 1;
+        rules[at] = 1;
+        rules[at + 1] = 2;
+        put_atom(rules, at + 2, relation, 0, 1);
+        put_atom(rules, at + 12, relation, 0, 2);
+        rules[at + 32] = 1;
+        rules[at + 33] = 2;
     }
 
-    // Makes dependency i 10(x0 x1) → 10(x1 x2).
-    fn put_endless(rules: &mut Rules, i: usize) {
-        if i < 4 {
-            let at = 53 * i + 1;
-            rules[at + 1] = 1;
-            put_atom(rules, at + 2, 10, 0, 1);
-            rules[at + 32] = 1;
-            put_atom(rules, at + 33, 10, 1, 2);
-        }
+    // Makes dependency i from(x0 x1) → to(x1 x2).
+    fn put_step(rules: &mut [u64], i: usize, from: u64, to: u64)
+        requires { 53 * i + 54 ≤ length rules.old }
+    {
+        let at = 53 * i + 1;
+        rules[at + 1] = 1;
+        put_atom(rules, at + 2, from, 0, 1);
+        rules[at + 32] = 1;
+        put_atom(rules, at + 33, to, 1, 2);
     }
 
     // Whether the row begins with these numbers and holds 7 behind them.
     fn holds(row: &Row, expected: &[u64]) -> bool {
-        for i in 0..962 {
-            let number = if i < expected.len() { expected[i] } else { 7 };
-            if row[i] != number {
-                return false;
-            }
+        match row.strip_prefix(expected) {
+            Some(rest) => rest.iter().all(|number| *number == 7),
+            None => false,
         }
-        true
     }
 
     // Objects with their makers' names and places are moved to persons: the persons have rank 1.
@@ -93,7 +84,7 @@ mod tests {
     fn no_ranks(rt: HostRuntime) {
         let mut rules = [0; 213];
         rules[0] = 1;
-        put_endless(&mut rules, 0);
+        put_step(&mut rules, 0, 10, 10);
         let mut row = [7; 962];
         assert_eq!(rt;
             position_ranks(&rules, &mut row),
@@ -101,7 +92,7 @@ mod tests {
         );
         rules[0] = 2;
         put_person(&mut rules, 0, 0, 11);
-        put_endless(&mut rules, 1);
+        put_step(&mut rules, 1, 10, 10);
         assert_eq!(rt;
             position_ranks(&rules, &mut row),
             Err(Refusal::Unranked { at: 1 })
@@ -132,17 +123,10 @@ mod tests {
     }
 
     // Makes all dependencies, the one behind i reading what i raises: 15-i(x0 x1) → 16-i(x1 x2).
-    fn put_chain(rules: &mut [u64]) {
-        if rules.len() < 849 {
-            return;
-        }
+    fn put_chain(rules: &mut [u64; 849]) {
         rules[0] = 16;
         for i in 0..16 {
-            let at = 53 * i + 1;
-            rules[at + 1] = 1;
-            put_atom(rules, at + 2, 15 - i as u64, 0, 1);
-            rules[at + 32] = 1;
-            put_atom(rules, at + 33, 16 - i as u64, 1, 2);
+            put_step(rules, i, 15 - i as u64, 16 - i as u64);
         }
     }
 
@@ -161,44 +145,37 @@ mod tests {
         put_chain(&mut rules);
         let mut row = [7; 962];
         assert_eq!(rt; position_ranks(&rules, &mut row), Ok(34));
-        for j in 0..34 {
-            let rank = chain_rank(row[3 * j + 1], row[3 * j + 2]);
-            assert_eq!(rt; row[3 * j + 3], rank);
+        for position in row[1..103].chunks_exact(3) {
+            let rank = chain_rank(position[0], position[1]);
+            assert_eq!(rt; position[2], rank);
         }
         assert_eq!(rt; row[103], 7);
     }
 
     // Makes all dependencies, each of five atoms of four variables, no position twice.
-    fn put_full(rules: &mut [u64]) {
-        if rules.len() < 849 {
-            return;
-        }
+    fn put_full(rules: &mut [u64; 849]) {
         rules[0] = 16;
         for i in 0..16 {
             let at = 53 * i + 1;
             rules[at + 1] = 3;
             rules[at + 32] = 2;
-            for a in 0..5 {
-                let from = if a < 3 {
-                    at + 10 * a + 2
-                } else {
-                    at + 10 * a + 3
-                };
-                put_four(rules, from, 5 * i as u64 + a as u64, 4 * (a as u64 % 4));
+            for (a, place) in [2, 12, 22, 33, 43].into_iter().enumerate() {
+                put_four(
+                    rules,
+                    at + place,
+                    5 * i as u64 + a as u64,
+                    4 * (a as u64 % 4),
+                );
             }
         }
     }
 
     // Puts relation(x x+1 x+2 x+3) at a place of the rules.
-    fn put_four(rules: &mut [u64], at: usize, relation: u64, x: u64) {
-        if at < 1000 && at + 10 <= rules.len() && x < 16 {
-            rules[at] = relation;
-            rules[at + 1] = 4;
-            for t in 0..4 {
-                rules[at + 2 * t + 2] = 1;
-                rules[at + 2 * t + 3] = x + t as u64;
-            }
-        }
+    fn put_four(rules: &mut [u64], at: usize, relation: u64, x: u64)
+        requires place { at + 10 ≤ length rules.old }
+        requires variables { x < 16 }
+    {
+        rules[at..at + 10].copy_from_slice(&[relation, 4, 1, x, 1, x + 1, 1, x + 2, 1, x + 3]);
     }
 
     #[test]

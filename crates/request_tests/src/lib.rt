@@ -1,6 +1,8 @@
 // Requests at the boundaries of what is accepted, and the refusal and the place of each that is not.
 #![tactic(auto)]
 
+ghost use Rattle.std.specs.Prelude.{◌<◌};
+
 #[cfg(test)]
 mod tests {
     use relational::{INSTANCE_LEN, Refusal, read_request};
@@ -17,25 +19,23 @@ mod tests {
     }
 
     fn refusal_with(facts: &[u64], rules: &[u64], room: usize, c: u64) -> Option<Refusal> {
-        match read_request(facts, rules, room, c) {
-            Ok(_) => None,
-            Err(refusal) => Some(refusal),
-        }
+        read_request(facts, rules, room, c).err()
     }
 
     // What is refused of one fact with these six numbers.
     fn fact_refusal(fact: [u64; 6], c: u64) -> Option<Refusal> {
-        let [relation, count, a, b, d, e] = fact;
-        refusal(&[1, relation, count, a, b, d, e], &[0], c)
+        let mut facts = [1; 7];
+        facts[1..].copy_from_slice(&fact);
+        refusal(&facts, &[0], c)
     }
 
     // What is refused where number `at` of an only dependency, else all zeros, is `n`.
-    fn rule_refusal(at: usize, n: u64) -> Option<Refusal> {
+    fn rule_refusal(at: usize, n: u64) -> Option<Refusal>
+        requires { at < 53 }
+    {
         let mut row = [0; 54];
         row[0] = 1;
-        if at < 53 {
-            row[at + 1] = n;
-        }
+        row[at + 1] = n;
         refusal(&[0], &row, C)
     }
 
@@ -178,12 +178,7 @@ mod tests {
     // One body atom of one term of the given kind and number.
     fn term_refusal(rule: u64, kind: u64, number: u64, left: u64, right: u64) -> Option<Refusal> {
         let mut row = [0; 54];
-        row[0] = 1;
-        row[1] = rule;
-        row[2] = 1;
-        row[4] = 1;
-        row[5] = kind;
-        row[6] = number;
+        row[..7].copy_from_slice(&[1, rule, 1, 0, 1, kind, number]);
         row[33] = left;
         row[34] = right;
         refusal(&[0], &row, C)
