@@ -4,7 +4,7 @@
 
 mod report;
 
-use input::{Failure, arguments, read_file, read_standard_input};
+use input::{Failure, arguments, exit_code, read_file, read_standard_input};
 use report::{report, stream_report};
 use std::process::ExitCode;
 
@@ -32,13 +32,6 @@ fn run(rt: &HostRuntime) -> Result<(), Failure> {
     print!(rt; "{text}").map_err(Failure::Unwritable)
 }
 
-// A failure is told in one line on standard error, and ends the program with status 1.
 fn main(rt: HostRuntime) -> ExitCode {
-    match run(&rt) {
-        Ok(()) => ExitCode::SUCCESS,
-        Err(failure) => {
-            let _ = eprintln!(rt; "exchange: {failure}");
-            ExitCode::FAILURE
-        }
-    }
+    exit_code(&rt, "exchange", run(&rt))
 }

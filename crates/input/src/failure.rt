@@ -38,7 +38,7 @@ impl fmt::Display for Failure {
     fn fmt<W: fmt::Write>(&self, f: &mut fmt::Formatter<W>) -> fmt::Result {
         match self {
             Failure::Usage(usage) => write!(f, "{usage}"),
-            Failure::Input(error) => write!(f, "{error}"),
+            Failure::Input(cause) => write!(f, "{cause}"),
             Failure::Unwritable(error) => write!(f, "cannot write standard output: {error}"),
         }
     }

@@ -1,10 +1,12 @@
-// What the programs are given, their arguments, files and standard input, and what keeps them from an answer.
+// What the programs share: how they are given their arguments, files and standard input, and how they fail.
 #![tactic(auto)]
 
 mod error;
+mod exit;
 mod failure;
 
 pub use error::InputError;
+pub use exit::exit_code;
 pub use failure::Failure;
 use std::io::Read;
 use std::{env, fs};
