@@ -1,5 +1,5 @@
 -- The text for what a call for certain answers is answered with.
-use Rattle.std.proofs.Common.{◌≡◌, ℕ, suc, ◌+◌, ◌-◌, ◌<◌, ◌≤◌, min, List, ◌++◌, length, get_or, take, drop, Some, None, Ok, Err, Option, Result, sym, ap, ◌∙◌, subst, ap₂, inl, inr, append_assoc, append-nil, arith}
+use Rattle.std.proofs.Common.{◌≡◌, ℕ, suc, ◌+◌, ◌-◌, ◌<◌, min, List, ◌++◌, length, get_or, take, drop, Some, None, Ok, Err, Option, Result, sym, subst, ap₂, inl, inr, append_assoc, arith}
 use Rattle.std.proofs.lemmas.List.{take_min, drop_min}
 use Rattle.relational.specs.Readings.{said}
 use Rattle.relational.specs.declared.refusal.Refusal.{Refusal}

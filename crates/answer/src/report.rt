@@ -24,6 +24,7 @@ fn push_rows(
 ) -> Result<(), AllocError>
     ensures { OnOk result (string_bytes out.new ≡ string_bytes out.old ++ row_lines c (rows_in width count rows.now)) }
 {
+    // No chunks: the width may be 0, and `rows` may hold fewer than `count`.
     let mut rest = rows;
     for _ in 0..count {
         let (row, after) = rest.split_at(width.min(rest.len()));

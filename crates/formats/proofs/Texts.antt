@@ -1,9 +1,8 @@
 -- One fact more in a text. Assumes nothing.
-use Rattle.std.proofs.Common.{◌≡◌, ℕ, suc, ◌+◌, ◌-◌, ◌*◌, ◌<◌, ◌≤◌, List, [], ◌∷◌, ◌++◌, length, get_or, take, drop, IfOk, Ok, Err, codes, decimal, Result, sym, ap, ◌∙◌, append_assoc, append-nil, add-one, arith}
-use Rattle.std.proofs.lemmas.List.{drop_more, drop_all, drop-drop, take_rest}
-use Rattle.relational.specs.Instances.{Fact}
+use Rattle.std.proofs.Common.{◌≡◌, ℕ, suc, ◌+◌, ◌-◌, ◌*◌, ◌<◌, ◌≤◌, List, ◌++◌, drop, IfOk, Ok, Err, Result, sym, ap, ◌∙◌, append_assoc, append-nil, add-one, arith}
+use Rattle.std.proofs.lemmas.List.{drop-drop}
 use Rattle.relational.specs.Layout.{fact_in, facts_from}
-use Rattle.formats.specs.Lines.{value_text, values_text, fact_line, fact_lines, row_line}
+use Rattle.formats.specs.Lines.{fact_line, fact_lines}
 
 -- what was appended, told otherwise
 pub retold : {T E : Type 0} (r : Result T E) (before after told text : List ℕ) → told ≡ text → IfOk r (λ _. after ≡ before ++ told) → IfOk r (λ _. after ≡ before ++ text)

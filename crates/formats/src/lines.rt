@@ -55,6 +55,7 @@ pub fn push_fact(out: &mut String, fact: &[u64], c: u64) -> Result<(), AllocErro
 pub fn push_facts(out: &mut String, row: &[u64], count: usize, c: u64) -> Result<(), AllocError>
     ensures { OnOk result (string_bytes out.new ≡ string_bytes out.old ++ fact_lines c (facts_in row.now count)) }
 {
+    // No chunks of six: a fact may have more than four values, and the row fewer facts than `count`.
     let mut rest = behind(row, 1);
     for _ in 0..count {
         push_fact(out, rest, c)?;

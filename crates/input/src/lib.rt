@@ -13,8 +13,11 @@ use std::{env, fs};
 
 // The arguments behind the program's own name.
 pub fn arguments(rt: &HostRuntime) -> Result<Vec<String>, InputError> {
-    let words = env::args(rt)
-        .map_err(|error| InputError::unreadable(rt.alloc(), "the arguments", error))?;
+    let words = env::args(rt).map_err(|error| InputError::unreadable(
+        rt.alloc(),
+        "the arguments",
+        error,
+    ))?;
     Ok(words.skip(1).collect(rt.alloc())?)
 }
 
@@ -24,8 +27,10 @@ pub fn read_file(rt: &HostRuntime, path: &str) -> Result<Vec<u8>, InputError> {
 
 pub fn read_standard_input(rt: &HostRuntime) -> Result<Vec<u8>, InputError> {
     let mut bytes = Vec::new(rt.alloc());
-    rt.stdin()
-        .read_to_end(&mut bytes)
-        .map_err(|error| InputError::unreadable(rt.alloc(), "standard input", error))?;
+    rt.stdin().read_to_end(&mut bytes).map_err(|error| InputError::unreadable(
+        rt.alloc(),
+        "standard input",
+        error,
+    ))?;
     Ok(bytes)
 }

@@ -1,7 +1,8 @@
 -- A text that is read character by character. Assumes nothing.
-use Rattle.std.proofs.Common.{◌≡◌, ℕ, ◌+◌, ◌<◌, ◌≤◌, List, [], ◌∷◌, ◌++◌, length, get_or, drop, Ok, Err, MatchResult, Result, sym, refl, ap, ◌∙◌, append_assoc, arith}
+use Rattle.std.proofs.Common.{◌≡◌, ℕ, ◌+◌, ◌<◌, ◌≤◌, List, ◌++◌, length, get_or, drop, Ok, Err, MatchResult, Result, sym, refl, ap, ◌∙◌, append_assoc}
 use Rattle.std.proofs.lemmas.List.{drop_more, drop_all}
 use Rattle.std.proofs.lemmas.Bool.{eq-eqb, ne_eqb}
+use Rattle.std.proofs.lemmas.Grind.{flat_map-append}
 use Rattle.numbers.specs.Reading.{after, closed, before, ends_after, onward, read_from, in_bytes}
 use Rattle.numbers.specs.Writing.{four_bytes, bytes_of}
 use Rattle.numbers.specs.declared.inside.Inside.{Inside}
@@ -9,16 +10,12 @@ use Rattle.numbers.specs.declared.inside.Inside.TheVariants.{Nothing}
 use Rattle.numbers.specs.declared.refusal.Fault.{Fault}
 use Rattle.numbers.specs.declared.refusal.Refusal.{Refusal}
 
-pub bytes_append : (ns ms : List ℕ) → bytes_of (ns ++ ms) ≡ bytes_of ns ++ bytes_of ms
-bytes_append [] ms = refl
-bytes_append (n ∷ ns) ms = ap (λ l. four_bytes n ++ l) (bytes_append ns ms)
-
 before_before : {E : Type 0} (xs ys : List ℕ) (r : Result (List ℕ) E) → before xs (before ys r) ≡ before (xs ++ ys) r
 before_before xs ys (Ok zs) = ap (λ l. Ok l) (sym (append_assoc xs ys zs))
 before_before xs ys (Err e) = refl
 
 in_bytes_before : {E : Type 0} (ns : List ℕ) (r : Result (List ℕ) E) → in_bytes (before ns r) ≡ before (bytes_of ns) (in_bytes r)
-in_bytes_before ns (Ok ms) = ap (λ l. Ok l) (bytes_append ns ms)
+in_bytes_before ns (Ok ms) = ap (λ l. Ok l) (flat_map-append four_bytes ns ms)
 in_bytes_before ns (Err e) = refl
 
 -- a line end is counted, and no other character is
@@ -33,7 +30,7 @@ abbrev pub InLine : ℕ → Result Inside Fault → Result Inside Refusal → Ty
 InLine line read told = MatchResult read (λ next. told ≡ Ok next) (λ f. told ≡ Err (record { fault = f; line = line }))
 
 refused : (line : ℕ) (read : Result Inside Fault) (told : Result Inside Refusal) (f : Refusal) → InLine line read told → told ≡ Err f → (g : Fault) × (read ≡ Err g) × (f ≡ record { fault = g; line = line })
-refused line (Ok next) told f is e = let z : ◌≡◌ {A = ℕ} 0 1 = cc in absurd (omega arith)
+refused line (Ok next) told f is e = absurd (cc)
 refused line (Err g) told f is e = (g, refl, cc)
 
 passed : (line : ℕ) (read : Result Inside Fault) (told : Result Inside Refusal) (next : Inside) → InLine line read told → told ≡ Ok next → read ≡ Ok next

@@ -1,4 +1,4 @@
-use Rattle.std.proofs.Common.{ℕ, List, ap, ◌∙◌, ap₂}
+use Rattle.std.proofs.Common.{ℕ, List, ◌∙◌, ap₂}
 use Rattle.query.specs.Answering.{rows_in}
 use Rattle.formats.proofs.Texts.{retold}
 use Rattle.formats.specs.Lines.{row_lines}
