@@ -16,4 +16,4 @@ returns-in-Impossible c =
 pub returns-in-Refused : goal.returns-in-Refused
 returns-in-Refused c =
     let t = refused_told c.args.c _ c.in-Refused.refusal _ c.move_facts.new.out c.in-Refused.ensures.says in
-    record { text = retold c.push_refusal.result _ _ _ _ t.0 c.push_refusal.ensures; means = t.1 }
+    record { text = rw (← t.0) (search rules); means = t.1 }
