@@ -1,5 +1,6 @@
 -- The text for what a call for certain answers is answered with.
-use Rattle.std.proofs.Common.{◌≡◌, ℕ, suc, ◌+◌, ◌-◌, ◌<◌, ◌≤◌, min, List, ◌++◌, length, get_or, take, drop, Some, None, Ok, Err, Option, Result, sym, ap, ◌∙◌, subst, ap₂, inl, inr, append_assoc, append-nil, arith}
+use Rattle.std.proofs.Common.{◌≡◌, ℕ, suc, ◌+◌, ◌-◌, ◌<◌, min, List, ◌++◌, length, get_or, take, drop, Some, None, Ok, Err, Option, Result, sym, subst, ap₂, inl, inr, append_assoc, arith}
+use Rattle.std.proofs.lemmas.List.{take_min, drop_min}
 use Rattle.relational.specs.Readings.{said}
 use Rattle.relational.specs.declared.refusal.Refusal.{Refusal}
 use Rattle.query.specs.Answering.{rows_in}
@@ -7,23 +8,14 @@ use Rattle.query.specs.Certain.{certain_answering, ExactlyCertain, AllCertain, C
 use Rattle.query.specs.declared.answer.Answer.TheVariants.{Done, Impossible}
 use Rattle.query.proofs.Widths.{query_width}
 use Rattle.formats.specs.Lines.{row_line, row_lines, refusal_line, impossible_line}
-use Rattle.formats.proofs.Parts.{take_min}
 use Rattle.answer.specs.Report.{room, result_text, answers_text, TextMeans}
 
-module _ (c : ℕ) (before whole : List ℕ) where
-  -- the next row was appended
-  pub row_more : (width k n i : ℕ) (rest row next after : List ℕ) → i < n → k ≡ min width (length rest) → row ≡ take (k - 0) rest → next ≡ drop width rest →
-      before ++ row_lines c (rows_in width (n - i) rest) ≡ whole → after ≡ before ++ row_line c row → after ++ row_lines c (rows_in width (n - (i + 1)) next) ≡ whole
-  row_more width k n i rest row next after h m r x e a =
-      let more : n - i ≡ suc (n - (i + 1)) = omega arith in
-      let z : k - 0 ≡ k = omega arith in
-      let front : row ≡ take width rest = r ∙ ap (λ (j : ℕ). take j rest) (z ∙ m) ∙ take_min width rest in
-      rw (a, front, x, append_assoc) (rw more at e)
-
-  pub rows_all : (width n i : ℕ) (rest : List ℕ) → n ≤ i → before ++ row_lines c (rows_in width (n - i) rest) ≡ whole → before ≡ whole
-  rows_all width n i rest h e =
-      let none : n - i ≡ 0 = omega arith in
-      sym (append-nil before) ∙ (rw none at e)
+-- the next row was appended
+pub row_more : (c : ℕ) (before whole : List ℕ) (width k n i : ℕ) (rest row next after : List ℕ) → i < n → k ≡ min width (length rest) → row ≡ take k rest → next ≡ drop k rest →
+    before ++ row_lines c (rows_in width (n - i) rest) ≡ whole → after ≡ before ++ row_line c row → after ++ row_lines c (rows_in width (n - (i + 1)) next) ≡ whole
+row_more c before whole width k n i rest row next after h m r x e a =
+    let more : n - i ≡ suc (n - (i + 1)) = omega arith in
+    rw (a, r, x, m, take_min, drop_min, append_assoc) (rw more at e)
 
 module _ (facts rules query : List ℕ) (c : ℕ) where
   text_is : (result : Option (Result ℕ (ℕ × ℕ))) (memory : List ℕ) → result ≡ (certain_answering facts rules query room c).result → memory ≡ (certain_answering facts rules query room c).memory →

@@ -2,14 +2,14 @@
 // solution, or why they are refused.
 #![tactic(auto)]
 
-mod failure;
-mod input;
 mod report;
 
-use failure::Failure;
-use input::{arguments, read_file, read_standard_input};
+use input::{Failure, arguments, exit_code, read_file, read_standard_input};
 use report::{report, stream_report};
 use std::process::ExitCode;
+
+const USAGE: &str =
+    "give a file of facts, a file of rules and a file of a query, or none and all on standard input";
 
 fn read_and_report(rt: &HostRuntime) -> Result<String, Failure> {
     let words = arguments(rt)?;
@@ -29,25 +29,15 @@ fn read_and_report(rt: &HostRuntime) -> Result<String, Failure> {
                 query.as_slice(),
             )?)
         }
-        _ => Err(Failure::Arguments),
+        _ => Err(Failure::Usage(USAGE)),
     }
 }
 
 fn run(rt: &HostRuntime) -> Result<(), Failure> {
     let text = read_and_report(rt)?;
-    match print!(rt; "{text}") {
-        Ok(()) => Ok(()),
-        Err(error) => Err(Failure::Unwritable(error)),
-    }
+    print!(rt; "{text}").map_err(Failure::Unwritable)
 }
 
-// A failure is told in one line on standard error, and ends the program with status 1.
 fn main(rt: HostRuntime) -> ExitCode {
-    match run(&rt) {
-        Ok(()) => ExitCode::SUCCESS,
-        Err(failure) => {
-            let _ = eprintln!(rt; "answer: {failure}");
-            ExitCode::FAILURE
-        }
-    }
+    exit_code(&rt, "answer", run(&rt))
 }

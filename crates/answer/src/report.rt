@@ -5,24 +5,31 @@ ghost use Rattle.query.specs.Answering.{rows_in};
 ghost use Rattle.std.specs.Prelude.{◌≡◌, ◌++◌, IfOk, string_bytes, OnOk};
 
 use formats::{
-    behind, number_and_place, numbers, push_impossible, push_refusal, push_row, query_behind,
-    rules_behind, split_first,
+    behind, numbers, push_impossible, push_refusal, push_row, query_behind, rules_behind,
+    split_first,
 };
 use query::{Answer, certain_answers};
 use std::alloc::{AllocError, Global};
-use std::fmt;
 
 // Room for the count of the answers and 16,384 answers of four values.
 const ROOM: usize = 65537;
 
 // The first `count` rows of a width, a line each.
-fn push_rows(out: &mut String, rows: &[u64], width: usize, count: usize, c: u64) -> fmt::Result
+fn push_rows(
+    out: &mut String,
+    rows: &[u64],
+    width: usize,
+    count: usize,
+    c: u64,
+) -> Result<(), AllocError>
     ensures { OnOk result (string_bytes out.new ≡ string_bytes out.old ++ row_lines c (rows_in width count rows.now)) }
 {
+    // No chunks: the width may be 0, and `rows` may hold fewer than `count`.
     let mut rest = rows;
     for _ in 0..count {
-        push_row(out, &rest[0..width.min(rest.len())], c)?;
-        rest = behind(rest, width);
+        let (row, after) = rest.split_at(width.min(rest.len()));
+        push_row(out, row, c)?;
+        rest = after;
     }
     Ok(())
 }
@@ -34,7 +41,7 @@ fn push_answers(
     rules: &[u64],
     query: &[u64],
     c: u64,
-) -> fmt::Result
+) -> Result<(), AllocError>
     ensures text { OnOk result (string_bytes out.new ≡ string_bytes out.old ++ answers_text facts.now rules.now query.now c) }
     ensures means { TextMeans facts.now rules.now query.now c (answers_text facts.now rules.now query.now c) }
 {
@@ -45,10 +52,7 @@ fn push_answers(
             push_rows(out, behind(&room, 1), width as usize, count as usize, c)
         }
         Answer::Impossible => push_impossible(out),
-        Answer::Refused(refusal) => {
-            let (number, place) = number_and_place(refusal);
-            push_refusal(out, number, place)
-        }
+        Answer::Refused(refusal) => push_refusal(out, refusal),
     }
 }
 
@@ -62,10 +66,8 @@ pub fn report(heap: Global, facts: &[u8], rules: &[u8], query: &[u8]) -> Result<
     let query = numbers(heap, query)?;
     let (c, row) = split_first(facts.as_slice());
     let mut text = String::new(heap);
-    match push_answers(&mut text, row, rules.as_slice(), query.as_slice(), c) {
-        Ok(()) => Ok(text),
-        Err(_) => Err(AllocError),
-    }
+    push_answers(&mut text, row, rules.as_slice(), query.as_slice(), c)?;
+    Ok(text)
 }
 
 // The text for one stream, where the rules stand behind the facts and the query behind the rules.

@@ -4,15 +4,12 @@ ghost use Rattle.relational.specs.Readings.{request_reading};
 ghost use Rattle.std.specs.Prelude.{◌≡◌, ◌++◌, IfOk, string_bytes, OnOk};
 
 use chase::{Reply, move_facts};
-use formats::{
-    number_and_place, numbers, push_facts, push_impossible, push_refusal, rules_behind, split_first,
-};
+use formats::{numbers, push_facts, push_impossible, push_refusal, rules_behind, split_first};
 use relational::INSTANCE_LEN;
 use std::alloc::{AllocError, Global};
-use std::fmt;
 
 // Appends what a move of the facts is answered with: the facts of the universal solution, a line each, or why there is none.
-fn push_move(out: &mut String, facts: &[u64], rules: &[u64], c: u64) -> fmt::Result
+fn push_move(out: &mut String, facts: &[u64], rules: &[u64], c: u64) -> Result<(), AllocError>
     ensures text { OnOk result (string_bytes out.new ≡ string_bytes out.old ++ request_text c (request_reading facts.now rules.now 1921 c)) }
     ensures means { TextMeans c (request_reading facts.now rules.now 1921 c) (request_text c (request_reading facts.now rules.now 1921 c)) }
 {
@@ -20,10 +17,7 @@ fn push_move(out: &mut String, facts: &[u64], rules: &[u64], c: u64) -> fmt::Res
     match move_facts(facts, rules, &mut row, c) {
         Reply::Done(count) => push_facts(out, &row, count as usize, c),
         Reply::Impossible => push_impossible(out),
-        Reply::Refused(refusal) => {
-            let (number, place) = number_and_place(refusal);
-            push_refusal(out, number, place)
-        }
+        Reply::Refused(refusal) => push_refusal(out, refusal),
     }
 }
 
@@ -36,10 +30,8 @@ pub fn report(heap: Global, facts: &[u8], rules: &[u8]) -> Result<String, AllocE
     let rules = numbers(heap, rules)?;
     let (c, row) = split_first(facts.as_slice());
     let mut text = String::new(heap);
-    match push_move(&mut text, row, rules.as_slice(), c) {
-        Ok(()) => Ok(text),
-        Err(_) => Err(AllocError),
-    }
+    push_move(&mut text, row, rules.as_slice(), c)?;
+    Ok(text)
 }
 
 // The text for one stream, where the rules stand behind the facts.

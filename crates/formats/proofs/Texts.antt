@@ -1,35 +1,15 @@
--- One value or fact more in a text. Assumes nothing.
-use Rattle.std.proofs.Common.{◌≡◌, ℕ, suc, ◌+◌, ◌-◌, ◌*◌, ◌<◌, ◌≤◌, List, [], ◌∷◌, ◌++◌, length, get_or, take, drop, IfOk, Ok, Err, codes, decimal, Result, sym, ap, ◌∙◌, append_assoc, append-nil, add-one, arith}
-use Rattle.std.proofs.lemmas.List.{drop_more, drop_all, drop-drop, take_rest}
-use Rattle.relational.specs.Instances.{Fact}
+-- One fact more in a text. Assumes nothing.
+use Rattle.std.proofs.Common.{◌≡◌, ℕ, suc, ◌+◌, ◌-◌, ◌*◌, ◌<◌, ◌≤◌, List, ◌++◌, drop, IfOk, Ok, Err, Result, sym, ap, ◌∙◌, append_assoc, append-nil, add-one, arith}
+use Rattle.std.proofs.lemmas.List.{drop-drop}
 use Rattle.relational.specs.Layout.{fact_in, facts_from}
-use Rattle.formats.specs.Lines.{value_text, values_text, fact_line, fact_lines, row_line}
+use Rattle.formats.specs.Lines.{fact_line, fact_lines}
 
 -- what was appended, told otherwise
 pub retold : {T E : Type 0} (r : Result T E) (before after told text : List ℕ) → told ≡ text → IfOk r (λ _. after ≡ before ++ told) → IfOk r (λ _. after ≡ before ++ text)
 retold (Ok x) before after told text e h = h ∙ ap (λ t. before ++ t) e
 retold (Err y) before after told text e h = tt
 
--- the three parts of a fact's line were appended
-pub fact_line_made : (c : ℕ) (f : Fact) (before relation values after : List ℕ) → relation ≡ before ++ (decimal f.relation ++ codes ":") → values ≡ relation ++ values_text c f.values → after ≡ values ++ codes "\n" → after ≡ before ++ fact_line c f
-fact_line_made c f before relation values after r v a = rw (a, v, r) (simp append_assoc)
-
--- the three parts of a row's line were appended
-pub row_line_made : (c : ℕ) (row before first values after : List ℕ) → 1 ≤ length row → first ≡ before ++ value_text c (get_or row 0 0) → values ≡ first ++ values_text c (take (length row - 1) (drop 1 row)) → after ≡ values ++ codes "\n" →
-    after ≡ before ++ row_line c row
-row_line_made c [] before first values after l f v a = absurd (omega arith)
-row_line_made c (n ∷ row) before first values after l f v a = rw (a, v, f, take_rest (n ∷ row) 1) (simp append_assoc)
-
 module _ (c : ℕ) (before whole : List ℕ) where
-  -- the blank and the value at place i were appended
-  pub value_more : (values : List ℕ) (i : ℕ) (blank after : List ℕ) → i < length values → before ++ values_text c (drop i values) ≡ whole → blank ≡ before ++ codes " " → after ≡ blank ++ value_text c (get_or values i 0) → after ++ values_text c (drop (i + 1) values) ≡ whole
-  value_more values i blank after h e b a =
-      let left : before ++ (codes " " ++ value_text c (get_or values i 0) ++ values_text c (drop (i + 1) values)) ≡ whole = rw (drop_more values i 0 h) at e in
-      rw (a, b) (simp append_assoc left)
-
-  pub values_all : (values : List ℕ) (i : ℕ) → length values ≤ i → before ++ values_text c (drop i values) ≡ whole → before ≡ whole
-  values_all values i h e = sym (append-nil before) ∙ (rw (drop_all i values h) at e)
-
   -- the fact at place i was appended, and k are left
   fact_step : (row rest : List ℕ) (i k : ℕ) (after : List ℕ) → rest ≡ drop (6 * i + 1) row → before ++ fact_lines c (facts_from row i (suc k)) ≡ whole → after ≡ before ++ fact_line c (fact_in rest) → after ++ fact_lines c (facts_from row (suc i) k) ≡ whole
   unfolding facts_from

@@ -2,9 +2,13 @@
 use Rattle.std.specs.Prelude.{ℕ, ◌+◌, ◌*◌, cond, List, drop, nat_le, slice_index}
 use Rattle.formats.specs.Bytes.{numbers_of}
 
--- a count above 64 is refused, and none of the facts that it promises are passed over
+-- a count above the most that there may be is refused, and nothing that it promises is passed over
+abbrev pub up_to : ℕ → ℕ → ℕ
+up_to most count = cond (nat_le count most) count 0
+
+-- at most 64 facts
 abbrev pub few : ℕ → ℕ
-few count = cond (nat_le count 64) count 0
+few count = up_to 64 count
 
 -- how many facts stand ahead of the rules: the second number says so
 abbrev pub facts_ahead : List ℕ → ℕ
@@ -16,7 +20,7 @@ rules_behind bytes = drop (4 * (2 + 6 * facts_ahead bytes)) bytes
 
 -- how many rules stand ahead of the query, in bytes that begin with their count: one above 16 is refused, and none are passed over
 abbrev pub rules_ahead : List ℕ → ℕ
-rules_ahead bytes = cond (nat_le (slice_index (numbers_of bytes) 0) 16) (slice_index (numbers_of bytes) 0) 0
+rules_ahead bytes = up_to 16 (slice_index (numbers_of bytes) 0)
 
 -- each rule is 53 numbers
 abbrev pub query_behind : List ℕ → List ℕ

@@ -8,13 +8,11 @@ use std::alloc::{AllocError, Global};
 pub fn numbers(heap: Global, bytes: &[u8]) -> Result<Vec<u64>, AllocError>
     ensures { IfOk result (λ v. v.items ≡ numbers_of bytes.now) }
 {
-    let mut numbers = Vec::with_capacity(heap, bytes.len() / 4)?;
-    let mut rest = bytes;
-    while let [a, b, c, d, after @ ..] = rest {
-        numbers.push(u64::from(u32::from_le_bytes([*a, *b, *c, *d])))?;
-        rest = after;
-    }
-    Ok(numbers)
+    let (fours, _) = bytes.as_chunks();
+    fours
+        .iter()
+        .map(|four| u64::from(u32::from_le_bytes(*four)))
+        .collect(heap)
 }
 
 #[cfg(test)]

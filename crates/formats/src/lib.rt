@@ -7,8 +7,6 @@ mod slices;
 mod stream;
 
 pub use bytes::numbers;
-pub use lines::{
-    number_and_place, push_fact, push_facts, push_impossible, push_refusal, push_row, push_value,
-};
+pub use lines::{push_fact, push_facts, push_impossible, push_refusal, push_row, push_value};
 pub use slices::{behind, split_first};
 pub use stream::{query_behind, rules_behind};

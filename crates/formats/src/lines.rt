@@ -6,22 +6,22 @@ ghost use Rattle.std.specs.Prelude.{◌≡◌, ◌++◌, string_bytes, OnOk};
 
 use crate::slices::behind;
 use relational::Refusal;
-use std::fmt;
+use std::alloc::AllocError;
 
 // A constant as its number, a null counted from `c` behind a question mark.
-pub fn push_value(out: &mut String, n: u64, c: u64) -> fmt::Result
+pub fn push_value(out: &mut String, n: u64, c: u64) -> Result<(), AllocError>
     ensures { OnOk result (string_bytes out.new ≡ string_bytes out.old ++ value_text c n) }
 {
     if n < c {
-        Ok(write!(out, "{n}")?)
+        write!(out, "{n}")
     } else {
         let null = n - c;
-        Ok(write!(out, "?{null}")?)
+        write!(out, "?{null}")
     }
 }
 
 // Each value behind a blank.
-fn push_values(out: &mut String, values: &[u64], c: u64) -> fmt::Result
+fn push_values(out: &mut String, values: &[u64], c: u64) -> Result<(), AllocError>
     ensures { OnOk result (string_bytes out.new ≡ string_bytes out.old ++ values_text c values.now) }
 {
     for value in values {
@@ -38,24 +38,24 @@ fn values_of(fact: &[u64]) -> &[u64]
     let [_, count, values @ ..] = fact else {
         return &[];
     };
-    let count = (*count as usize).min(values.len());
-    &values[0..count]
+    values.get(..*count as usize).unwrap_or(values)
 }
 
 // The fact that `fact` begins with, on a line of its own.
-pub fn push_fact(out: &mut String, fact: &[u64], c: u64) -> fmt::Result
+pub fn push_fact(out: &mut String, fact: &[u64], c: u64) -> Result<(), AllocError>
     ensures { OnOk result (string_bytes out.new ≡ string_bytes out.old ++ fact_line c (fact_in fact.now)) }
 {
     let relation = fact.first().copied().unwrap_or(0);
     write!(out, "{relation}:")?;
     push_values(out, values_of(fact), c)?;
-    Ok(writeln!(out)?)
+    writeln!(out)
 }
 
 // The first `count` facts of `row`, which stand behind its first number.
-pub fn push_facts(out: &mut String, row: &[u64], count: usize, c: u64) -> fmt::Result
+pub fn push_facts(out: &mut String, row: &[u64], count: usize, c: u64) -> Result<(), AllocError>
     ensures { OnOk result (string_bytes out.new ≡ string_bytes out.old ++ fact_lines c (facts_in row.now count)) }
 {
+    // No chunks of six: a fact may have more than four values, and the row fewer facts than `count`.
     let mut rest = behind(row, 1);
     for _ in 0..count {
         push_fact(out, rest, c)?;
@@ -65,50 +65,34 @@ pub fn push_facts(out: &mut String, row: &[u64], count: usize, c: u64) -> fmt::R
 }
 
 // The values of a row with one blank between them, on a line of their own.
-pub fn push_row(out: &mut String, row: &[u64], c: u64) -> fmt::Result
+pub fn push_row(out: &mut String, row: &[u64], c: u64) -> Result<(), AllocError>
     ensures { OnOk result (string_bytes out.new ≡ string_bytes out.old ++ row_line c row.now) }
 {
-    let [first, rest @ ..] = row else {
-        return Ok(writeln!(out)?);
-    };
-    push_value(out, *first, c)?;
-    push_values(out, rest, c)?;
-    Ok(writeln!(out)?)
-}
-
-// The number and the place of a refusal.
-pub fn number_and_place(refusal: Refusal) -> (u64, u64)
-    ensures { result ≡ said refusal }
-{
-    match refusal {
-        Refusal::Facts { at } => (1, at),
-        Refusal::Dependencies { at } => (2, at),
-        Refusal::Constants { at } => (3, at),
-        Refusal::Room { len } => (4, len),
-        Refusal::GivenUp { steps } => (5, steps),
-        Refusal::Query { at } => (6, at),
-        Refusal::Answers { count } => (7, count),
-        Refusal::Unranked { at } => (8, at),
+    if let [first, rest @ ..] = row {
+        push_value(out, *first, c)?;
+        push_values(out, rest, c)?;
     }
+    writeln!(out)
 }
 
 // The line of a refusal.
-pub fn push_refusal(out: &mut String, number: u64, place: u64) -> fmt::Result
-    ensures { OnOk result (string_bytes out.new ≡ string_bytes out.old ++ refusal_line number place) }
+pub fn push_refusal(out: &mut String, refusal: Refusal) -> Result<(), AllocError>
+    ensures { OnOk result (string_bytes out.new ≡ string_bytes out.old ++ refusal_line (said refusal).0 (said refusal).1) }
 {
-    Ok(writeln!(out, "refused {number} at {place}")?)
+    writeln!(out, "{refusal}")
 }
 
 // The line that says that there is no solution.
-pub fn push_impossible(out: &mut String) -> fmt::Result
+pub fn push_impossible(out: &mut String) -> Result<(), AllocError>
     ensures { OnOk result (string_bytes out.new ≡ string_bytes out.old ++ impossible_line) }
 {
-    Ok(writeln!(out, "impossible")?)
+    writeln!(out, "impossible")
 }
 
 #[cfg(test)]
 mod tests {
     use super::{push_facts, push_refusal, push_row};
+    use relational::Refusal;
     use std::test::Fail;
 
     #[test]
@@ -125,7 +109,7 @@ mod tests {
         let row = [2, 10, 2, 1, 100, 0, 0, 11, 0, 9, 9, 9, 9];
         let mut text = String::new(rt.alloc());
         push_facts(&mut text, &row, 2, 100)?;
-        push_refusal(&mut text, 1, 64)?;
+        push_refusal(&mut text, Refusal::Facts { at: 64 })?;
         assert!(rt; text.as_str() == "10: 1 ?0\n11:\nrefused 1 at 64\n");
         Ok(())
     }

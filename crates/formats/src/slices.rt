@@ -5,7 +5,7 @@ ghost use Rattle.std.specs.Prelude.{◌≡◌, drop, slice_index};
 pub fn behind<T>(items: &[T], n: usize) -> &[T]
     ensures { result.now ≡ drop n items.now }
 {
-    if n <= items.len() { &items[n..] } else { &[] }
+    items.get(n..).unwrap_or(&[])
 }
 
 // The first number, 0 where there is none, and those behind it.
@@ -13,8 +13,8 @@ pub fn split_first(numbers: &[u64]) -> (u64, &[u64])
     ensures first { result.0 ≡ slice_index numbers.now 0 }
     ensures rest { result.1.now ≡ drop 1 numbers.now }
 {
-    match numbers {
-        [first, rest @ ..] => (*first, rest),
-        [] => (0, numbers),
+    match numbers.split_first() {
+        Some((first, rest)) => (*first, rest),
+        None => (0, numbers),
     }
 }

@@ -1,18 +1,25 @@
 // Facts, rules and a query on one stream.
-ghost use Rattle.formats.specs.Stream.{facts_ahead, query_behind, rules_ahead, rules_behind};
-ghost use Rattle.std.specs.Prelude.{◌≡◌};
+ghost use Rattle.formats.specs.Bytes.{numbers_of};
+ghost use Rattle.formats.specs.Stream.{facts_ahead, query_behind, rules_ahead, rules_behind, up_to};
+ghost use Rattle.std.specs.Prelude.{◌≡◌, slice_index};
 
 use crate::slices::behind;
+
+// The number that `bytes` begin with, or 0 where it is missing or above `most`.
+fn count_up_to(bytes: &[u8], most: u32) -> usize
+    ensures { result ≡ up_to most (slice_index (numbers_of bytes.now) 0) }
+{
+    let count = bytes
+        .first_chunk()
+        .map_or(0, |four| u32::from_le_bytes(*four));
+    if count <= most { count as usize } else { 0 }
+}
 
 // How many facts stand ahead of the rules, or 0 where the count is missing or above 64.
 fn facts_ahead(bytes: &[u8]) -> usize
     ensures { result ≡ facts_ahead bytes.now }
 {
-    let [_, _, _, _, a, b, c, d, ..] = bytes else {
-        return 0;
-    };
-    let count = u32::from_le_bytes([*a, *b, *c, *d]);
-    if count <= 64 { count as usize } else { 0 }
+    count_up_to(behind(bytes, 4), 64)
 }
 
 // The bytes behind the first null, the count of facts and the facts.
@@ -26,11 +33,7 @@ pub fn rules_behind(bytes: &[u8]) -> &[u8]
 fn rules_ahead(bytes: &[u8]) -> usize
     ensures { result ≡ rules_ahead bytes.now }
 {
-    let [a, b, c, d, ..] = bytes else {
-        return 0;
-    };
-    let count = u32::from_le_bytes([*a, *b, *c, *d]);
-    if count <= 16 { count as usize } else { 0 }
+    count_up_to(bytes, 16)
 }
 
 // The bytes behind the count of rules and the rules.

@@ -1,31 +1,36 @@
-// What the programs are given: their arguments, files and standard input.
+// What the programs share: how they are given their arguments, files and standard input, and how they fail.
 #![tactic(auto)]
 
 mod error;
+mod exit;
+mod failure;
 
 pub use error::InputError;
+pub use exit::exit_code;
+pub use failure::Failure;
 use std::io::Read;
 use std::{env, fs};
 
 // The arguments behind the program's own name.
 pub fn arguments(rt: &HostRuntime) -> Result<Vec<String>, InputError> {
-    match env::args(rt) {
-        Ok(words) => Ok(words.skip(1).collect(rt.alloc())?),
-        Err(error) => Err(InputError::unreadable(rt.alloc(), "the arguments", error)),
-    }
+    let words = env::args(rt).map_err(|error| InputError::unreadable(
+        rt.alloc(),
+        "the arguments",
+        error,
+    ))?;
+    Ok(words.skip(1).collect(rt.alloc())?)
 }
 
 pub fn read_file(rt: &HostRuntime, path: &str) -> Result<Vec<u8>, InputError> {
-    match fs::read(rt, path) {
-        Ok(bytes) => Ok(bytes),
-        Err(error) => Err(InputError::unreadable(rt.alloc(), path, error)),
-    }
+    fs::read(rt, path).map_err(|error| InputError::unreadable(rt.alloc(), path, error))
 }
 
 pub fn read_standard_input(rt: &HostRuntime) -> Result<Vec<u8>, InputError> {
     let mut bytes = Vec::new(rt.alloc());
-    match rt.stdin().read_to_end(&mut bytes) {
-        Ok(_) => Ok(bytes),
-        Err(error) => Err(InputError::unreadable(rt.alloc(), "standard input", error)),
-    }
+    rt.stdin().read_to_end(&mut bytes).map_err(|error| InputError::unreadable(
+        rt.alloc(),
+        "standard input",
+        error,
+    ))?;
+    Ok(bytes)
 }

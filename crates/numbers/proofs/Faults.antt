@@ -23,7 +23,7 @@ record FaultAt (ended : ℕ) (inside : Inside) (text : List ℕ) (f : Refusal) :
   pub kind : f.fault ≡ cond (is_ascii_digit character) TooLarge Character
 
 never : {A : Type 0} (x : A) (f : Fault) → ◌≡◌ {A = Result A Fault} (Ok x) (Err f) → ⊥
-never x f e = let z : ◌≡◌ {A = ℕ} 0 1 = cc in omega arith
+never x f e = cc
 
 same_fault : {A : Type 0} (f g : Fault) → ◌≡◌ {A = Result A Fault} (Err f) (Err g) → g ≡ f
 same_fault f g e = cc
@@ -44,7 +44,7 @@ kind_of (Number n) c f e = number_kind n c f e
 kind_of Comment c f e = absurd (never (cond (eqb c 10) Nothing Comment) f e)
 
 before_err : (ns : List ℕ) (r : Result (List ℕ) Refusal) (f : Refusal) → before ns r ≡ Err f → r ≡ Err f
-before_err ns (Ok ms) f e = let z : ◌≡◌ {A = ℕ} 0 1 = cc in absurd (omega arith)
+before_err ns (Ok ms) f e = absurd (cc)
 before_err ns (Err g) f e = e
 
 ends_more : (ended c : ℕ) (front : List ℕ) → ends_after ended c + line_ends front + 1 ≡ ended + line_ends (c ∷ front) + 1
@@ -56,7 +56,7 @@ ends_more ended c front = go (eqb c 10)
 
 fault_found : (text : List ℕ) (ended : ℕ) (inside : Inside) (f : Refusal) → read_from ended inside text ≡ Err f → FaultAt ended inside text f
 unfolding read_from
-fault_found [] ended inside f e = let z : ◌≡◌ {A = ℕ} 0 1 = cc in absurd (omega arith)
+fault_found [] ended inside f e = absurd (cc)
 fault_found (c ∷ text) ended inside f e = go (after inside c) refl (λ next r. fault_found text (ends_after ended c) next f r)
   where
     go : (r : Result Inside Fault) → after inside c ≡ r → ((next : Inside) → read_from (ends_after ended c) next text ≡ Err f → FaultAt (ends_after ended c) next text f) → FaultAt ended inside (c ∷ text) f
@@ -99,8 +99,7 @@ first_fault text f e =
       faulty = λ rest ns says.
           let read = read_said (at.front ++ at.character ∷ rest) ns says 0 in
           let refused = at.faulty rest in
-          let z : ◌≡◌ {A = ℕ} 0 1 = cc in
-          omega arith;
+          cc;
       in_line = omega (arith, at.in_line);
       kind = at.kind;
     }

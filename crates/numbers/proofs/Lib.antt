@@ -1,4 +1,3 @@
-pub mod ByLine
 pub mod Faults
 pub mod Meant
 pub mod Returning

@@ -13,10 +13,10 @@ use Rattle.numbers.proofs.Sound.{sound}
 
 in_bytes_ok : (r : Result (List ℕ) Refusal) (bytes : List ℕ) → in_bytes r ≡ Ok bytes → (ns : List ℕ) × (r ≡ Ok ns) × (bytes ≡ bytes_of ns)
 in_bytes_ok (Ok ns) bytes e = (ns, refl, cc)
-in_bytes_ok (Err f) bytes e = let z : ◌≡◌ {A = ℕ} 0 1 = cc in absurd (omega arith)
+in_bytes_ok (Err f) bytes e = absurd (cc)
 
 in_bytes_err : (r : Result (List ℕ) Refusal) (f : Refusal) → in_bytes r ≡ Err f → r ≡ Err f
-in_bytes_err (Ok ns) f e = let z : ◌≡◌ {A = ℕ} 0 1 = cc in absurd (omega arith)
+in_bytes_err (Ok ns) f e = absurd (cc)
 in_bytes_err (Err g) f e = e
 
 same_read : (ns ms : List ℕ) → ◌≡◌ {A = Result (List ℕ) Refusal} (Ok ns) (Ok ms) → ns ≡ ms

@@ -38,7 +38,7 @@ Goes_on Comment text ns = WordsOn text ns
 
 before_ok : {E : Type 0} (ns : List ℕ) (r : Result (List ℕ) E) (ms : List ℕ) → before ns r ≡ Ok ms → (ks : List ℕ) × (r ≡ Ok ks) × (ms ≡ ns ++ ks)
 before_ok ns (Ok ks) ms e = (ks, refl, cc)
-before_ok ns (Err x) ms e = let z : ◌≡◌ {A = ℕ} 0 1 = cc in absurd (omega arith)
+before_ok ns (Err x) ms e = absurd (cc)
 
 -- one character on, where the text is read
 step_ok : (ended : ℕ) (inside next : Inside) (c : ℕ) (text ns : List ℕ) → read_from ended inside (c ∷ text) ≡ Ok ns → after inside c ≡ Ok next →
@@ -52,8 +52,7 @@ step_err ended inside f c text e = rw e
 not_read : (ended : ℕ) (inside : Inside) (f : Fault) (c : ℕ) (text ns : List ℕ) → read_from ended inside (c ∷ text) ≡ Ok ns → after inside c ≡ Err f → ⊥
 not_read ended inside f c text ns e faulty =
     let wrong = step_err ended inside f c text faulty in
-    let z : ◌≡◌ {A = ℕ} 0 1 = cc in
-    absurd (omega arith)
+    cc
 
 digit_of : (c : ℕ) → is_ascii_digit c ≡ true → (digit_value c < 10) × (digit_value c ≡ c - 48)
 digit_of c e = grind (arith, nat_tests)

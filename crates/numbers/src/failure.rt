@@ -1,5 +1,5 @@
 // What keeps the program from writing its answer.
-ghost use Rattle.numbers.specs.declared.failure.Failure.TheVariants.{Input, Memory};
+ghost use Rattle.numbers.specs.declared.failure.Failure.TheVariants.{Input, Memory, Text};
 ghost use Rattle.std.specs.Prelude.{◌≡◌};
 
 use crate::refusal::Refusal;
@@ -38,6 +38,14 @@ impl From<InputError> for Failure {
     }
 }
 
+impl From<Refusal> for Failure {
+    ghost from_gives = { λ f r. r ≡ Text f };
+
+    fn from(refusal: Refusal) -> Failure {
+        Failure::Text(refusal)
+    }
+}
+
 // What is told on standard error.
 impl fmt::Display for Failure {
     fn fmt<W: fmt::Write>(&self, f: &mut fmt::Formatter<W>) -> fmt::Result {
@@ -48,7 +56,7 @@ impl fmt::Display for Failure {
             ),
             Failure::Input(error) => write!(f, "{error}"),
             Failure::Unwritable(error) => write!(f, "cannot write standard output: {error}"),
-            Failure::Text(refusal) => write!(f, "{refusal}"),
+            Failure::Text(told) => write!(f, "{told}"),
             Failure::CutShort(len) => write!(
                 f,
                 "{len} bytes, and four to a number: the last number is cut short"

@@ -18,11 +18,9 @@ fn number_with_digit(n: u32, c: u8) -> Result<Inside, Fault>
     ensures { result ≡ with_digit n c }
 {
     let number = u64::from(n) * 10 + u64::from(c - b'0');
-    if number < 4294967296 {
-        Ok(Inside::Number(number as u32))
-    } else {
-        Err(Fault::TooLarge)
-    }
+    u32::try_from(number)
+        .map(Inside::Number)
+        .map_err(|_| Fault::TooLarge)
 }
 
 // What a text is inside of behind `c`, which stands in no comment and behind the digits of `n`, or behind none.
@@ -44,12 +42,7 @@ pub fn inside_after(inside: Inside, c: u8) -> Result<Inside, Fault>
     match inside {
         Inside::Nothing => inside_after_number(0, c),
         Inside::Number(n) => inside_after_number(n, c),
-        Inside::Comment => {
-            if c == b'\n' {
-                Ok(Inside::Nothing)
-            } else {
-                Ok(Inside::Comment)
-            }
-        }
+        Inside::Comment if c == b'\n' => Ok(Inside::Nothing),
+        Inside::Comment => Ok(Inside::Comment),
     }
 }

@@ -8,7 +8,7 @@ mod refusal;
 mod text;
 
 use failure::Failure;
-use input::{arguments, read_file, read_standard_input};
+use input::{arguments, exit_code, read_file, read_standard_input};
 use lines::decode;
 use std::io::Write;
 use std::process::ExitCode;
@@ -24,10 +24,7 @@ fn input_bytes(rt: &HostRuntime, files: &[String]) -> Result<Vec<u8>, Failure> {
 }
 
 fn write_bytes(rt: &HostRuntime, bytes: &[u8]) -> Result<(), Failure> {
-    match rt.stdout().write_all(bytes) {
-        Ok(()) => Ok(()),
-        Err(error) => Err(Failure::Unwritable(error)),
-    }
+    rt.stdout().write_all(bytes).map_err(Failure::Unwritable)
 }
 
 fn run(rt: &HostRuntime) -> Result<(), Failure> {
@@ -46,13 +43,6 @@ fn run(rt: &HostRuntime) -> Result<(), Failure> {
     }
 }
 
-// A failure is told in one line on standard error, and ends the program with status 1.
 fn main(rt: HostRuntime) -> ExitCode {
-    match run(&rt) {
-        Ok(()) => ExitCode::SUCCESS,
-        Err(failure) => {
-            let _ = eprintln!(rt; "numbers: {failure}");
-            ExitCode::FAILURE
-        }
-    }
+    exit_code(&rt, "numbers", run(&rt))
 }

@@ -30,18 +30,11 @@ pub fn encode(heap: Global, text: &[u8]) -> Result<Vec<u8>, Failure>
     let mut inside = Inside::Nothing;
     let mut ended = 0;
     for c in text {
-        let next = match inside_after(inside, *c) {
-            Ok(next) => next,
-            Err(fault) => {
-                return Err(Failure::Text(Refusal {
-                    fault,
-                    line: ended + 1,
-                }));
-            }
-        };
+        let line = ended + 1;
+        let next = inside_after(inside, *c).map_err(|fault| Refusal { fault, line })?;
         push_closed(&mut bytes, inside, next)?;
         if *c == b'\n' {
-            ended += 1;
+            ended = line;
         }
         inside = next;
     }

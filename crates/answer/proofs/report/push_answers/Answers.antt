@@ -1,7 +1,7 @@
-use Rattle.std.proofs.Common.{ℕ, List, ap, ◌∙◌, ap₂}
+use Rattle.std.proofs.Common.{ℕ, List, ◌∙◌, ap₂}
 use Rattle.query.specs.Answering.{rows_in}
 use Rattle.formats.proofs.Texts.{retold}
-use Rattle.formats.specs.Lines.{row_lines, refusal_line}
+use Rattle.formats.specs.Lines.{row_lines}
 use Rattle.answer.proofs.Told.{done_told, impossible_told, refused_told}
 use Rattle.answer.proofs.report.push_answers.Goals as goal
 
@@ -22,5 +22,4 @@ pub returns-in-Refused : goal.returns-in-Refused
 returns-in-Refused c =
     let e = c.in-Refused.ensures in
     let t = refused_told c.args.facts.now c.args.rules.now c.args.query.now c.args.c c.in-Refused.refusal c.certain_answers.new.out e.result e.memory in
-    let line = ap (λ (p : ℕ × ℕ). refusal_line p.0 p.1) c.number_and_place-number.ensures in
-    record { text = retold c.push_refusal.result _ _ _ _ (line ∙ t.0) c.push_refusal.ensures; means = t.1 }
+    record { text = retold c.push_refusal.result _ _ _ _ t.0 c.push_refusal.ensures; means = t.1 }

@@ -1,6 +1,5 @@
-use Rattle.std.proofs.Common.{ℕ, ap, ◌∙◌, rules}
+use Rattle.std.proofs.Common.{rules}
 use Rattle.formats.proofs.Texts.{retold}
-use Rattle.formats.specs.Lines.{refusal_line}
 use Rattle.exchange.proofs.Told.{done_told, impossible_told, refused_told}
 use Rattle.exchange.proofs.report.push_move.Goals as goal
 
@@ -17,5 +16,4 @@ returns-in-Impossible c =
 pub returns-in-Refused : goal.returns-in-Refused
 returns-in-Refused c =
     let t = refused_told c.args.c _ c.in-Refused.refusal _ c.move_facts.new.out c.in-Refused.ensures.says in
-    let line = ap (λ (e : ℕ × ℕ). refusal_line e.0 e.1) c.number_and_place-number.ensures in
-    record { text = retold c.push_refusal.result _ _ _ _ (line ∙ t.0) c.push_refusal.ensures; means = t.1 }
+    record { text = rw (← t.0) (search rules); means = t.1 }

@@ -1,9 +1,5 @@
-use native.Mathlib.Nat.{sub-zero}
 use Rattle.formats.proofs.Texts.{fact_more, next_fact, facts_all}
 use Rattle.formats.proofs.lines.push_facts.Goals as goal
-
-pub loop-init : goal.loop-init
-loop-init c = (c.behind-rest.ensures, rw sub-zero)
 
 pub loop-preserved : goal.loop-preserved
 loop-preserved c = (
