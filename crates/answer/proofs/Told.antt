@@ -5,7 +5,6 @@ use Rattle.relational.specs.Readings.{said}
 use Rattle.relational.specs.declared.refusal.Refusal.{Refusal}
 use Rattle.query.specs.Answering.{rows_in}
 use Rattle.query.specs.Certain.{certain_answering, ExactlyCertain, AllCertain, CertainMeans}
-use Rattle.query.specs.declared.answer.Answer.TheVariants.{Done, Impossible}
 use Rattle.query.proofs.Widths.{query_width}
 use Rattle.formats.specs.Lines.{row_line, row_lines, refusal_line, impossible_line}
 use Rattle.answer.specs.Report.{room, result_text, answers_text, TextMeans}
@@ -24,7 +23,7 @@ module _ (facts rules query : List ℕ) (c : ℕ) where
 
   -- the rows that stand in the memory
   pub done_told : (n : ℕ) (memory : List ℕ) → Some (Ok n) ≡ (certain_answering facts rules query room c).result → memory ≡ (certain_answering facts rules query room c).memory →
-      CertainMeans facts rules query memory c (Done n) →
+      CertainMeans facts rules query memory c (Ok (Some n)) →
       (row_lines c (rows_in (get_or query 0 0) n (drop 1 memory)) ≡ answers_text facts rules query c) × TextMeans facts rules query c (answers_text facts rules query c)
   unfolding CertainMeans AllCertain TextMeans
   done_told n memory e m means =
@@ -45,7 +44,7 @@ module _ (facts rules query : List ℕ) (c : ℕ) where
 
   -- that there is no solution
   pub impossible_told : (memory : List ℕ) → None ≡ (certain_answering facts rules query room c).result → memory ≡ (certain_answering facts rules query room c).memory →
-      CertainMeans facts rules query memory c Impossible → (impossible_line ≡ answers_text facts rules query c) × TextMeans facts rules query c (answers_text facts rules query c)
+      CertainMeans facts rules query memory c (Ok None) → (impossible_line ≡ answers_text facts rules query c) × TextMeans facts rules query c (answers_text facts rules query c)
   unfolding CertainMeans TextMeans
   impossible_told memory e m means =
       let text = text_is None memory e m in

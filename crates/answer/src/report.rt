@@ -8,7 +8,7 @@ use formats::{
     behind, numbers, push_impossible, push_refusal, push_row, query_behind, rules_behind,
     split_first,
 };
-use query::{Answer, certain_answers};
+use query::certain_answers;
 use std::alloc::{AllocError, Global};
 
 // Room for the count of the answers and 16,384 answers of four values.
@@ -47,12 +47,12 @@ fn push_answers(
 {
     let mut room = [0; ROOM];
     match certain_answers(facts, rules, query, &mut room, c) {
-        Answer::Done(count) => {
+        Ok(Some(count)) => {
             let (width, _) = split_first(query);
             push_rows(out, behind(&room, 1), width as usize, count as usize, c)
         }
-        Answer::Impossible => push_impossible(out),
-        Answer::Refused(refusal) => push_refusal(out, refusal),
+        Ok(None) => push_impossible(out),
+        Err(refusal) => push_refusal(out, refusal),
     }
 }
 

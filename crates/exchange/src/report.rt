@@ -3,7 +3,7 @@ ghost use Rattle.exchange.specs.Report.{ReportMeans, StreamReportMeans, TextMean
 ghost use Rattle.relational.specs.Readings.{request_reading};
 ghost use Rattle.std.specs.Prelude.{◌≡◌, ◌++◌, IfOk, string_bytes, OnOk};
 
-use chase::{Reply, move_facts};
+use chase::move_facts;
 use formats::{numbers, push_facts, push_impossible, push_refusal, rules_behind, split_first};
 use relational::INSTANCE_LEN;
 use std::alloc::{AllocError, Global};
@@ -15,9 +15,9 @@ fn push_move(out: &mut String, facts: &[u64], rules: &[u64], c: u64) -> Result<(
 {
     let mut row = [0; INSTANCE_LEN];
     match move_facts(facts, rules, &mut row, c) {
-        Reply::Done(count) => push_facts(out, &row, count as usize, c),
-        Reply::Impossible => push_impossible(out),
-        Reply::Refused(refusal) => push_refusal(out, refusal),
+        Ok(Some(count)) => push_facts(out, &row, count as usize, c),
+        Ok(None) => push_impossible(out),
+        Err(refusal) => push_refusal(out, refusal),
     }
 }
 

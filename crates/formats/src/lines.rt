@@ -5,7 +5,7 @@ ghost use Rattle.relational.specs.Readings.{said};
 ghost use Rattle.std.specs.Prelude.{◌≡◌, ◌++◌, string_bytes, OnOk};
 
 use crate::slices::behind;
-use relational::Refusal;
+use relational::{Refusal, fact_values};
 use std::alloc::AllocError;
 
 // A constant as its number, a null counted from `c` behind a question mark.
@@ -31,23 +31,13 @@ fn push_values(out: &mut String, values: &[u64], c: u64) -> Result<(), AllocErro
     Ok(())
 }
 
-// The values of the fact that `fact` begins with.
-fn values_of(fact: &[u64]) -> &[u64]
-    ensures { result.now ≡ (fact_in fact.now).values }
-{
-    let [_, count, values @ ..] = fact else {
-        return &[];
-    };
-    values.get(..*count as usize).unwrap_or(values)
-}
-
 // The fact that `fact` begins with, on a line of its own.
 pub fn push_fact(out: &mut String, fact: &[u64], c: u64) -> Result<(), AllocError>
     ensures { OnOk result (string_bytes out.new ≡ string_bytes out.old ++ fact_line c (fact_in fact.now)) }
 {
     let relation = fact.first().copied().unwrap_or(0);
     write!(out, "{relation}:")?;
-    push_values(out, values_of(fact), c)?;
+    push_values(out, fact_values(fact), c)?;
     writeln!(out)
 }
 
@@ -92,7 +82,7 @@ pub fn push_impossible(out: &mut String) -> Result<(), AllocError>
 #[cfg(test)]
 mod tests {
     use super::{push_facts, push_refusal, push_row};
-    use relational::Refusal;
+    use relational::{Refusal, fact_values};
     use std::test::Fail;
 
     #[test]
