@@ -1,15 +1,14 @@
 -- Tests of the elements of a list.
-use Rattle.std.specs.Prelude.{ℕ, suc, Bool, true, false, cond, ◌&&◌, ◌||◌, List, [], ◌∷◌, Some, None, Option}
+use Rattle.std.specs.Prelude.{ℕ, suc, Bool, cond, List, [], ◌∷◌, Some, None, Option}
+use Rattle.std.specs.List.{list_any, list_all}
 
 -- each passes
 abbrev pub every : {A : Type 0} → (A → Bool) → List A → Bool
-every t [] = true
-every t (x ∷ xs) = t x && every t xs
+every = list_all
 
 -- one of them passes
 abbrev pub any : {A : Type 0} → (A → Bool) → List A → Bool
-any t [] = false
-any t (x ∷ xs) = t x || any t xs
+any = list_any
 
 -- the place of the first that fails, places counted from i on
 abbrev pub first_failing : {A : Type 0} → (A → Bool) → List A → ℕ → Option ℕ
