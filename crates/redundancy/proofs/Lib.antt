@@ -22,3 +22,4 @@ mod Blocked
 mod Thinned
 mod Once
 mod Written
+mod Positions

@@ -69,16 +69,3 @@ module _ (c : ℕ) (reading : Result Instance (ℕ × ℕ)) (facts : Instance) (
   core_means =
       let r = core_right c facts in
       (facts, h, count ∙ ap length (is ∙ sym reads), subst (Core c facts) (sym reads) r.0, subst Distinct (sym reads) r.1, subst (UniversalToo c facts) (sym reads) (universal_too c facts))
-
--- the distinct facts, thinned where they lie, are the core
-pub core_left : (c : ℕ) (facts : Instance) (read thin rest : List code.Fact) (k n : ℕ) → map fact_of (take k read) ≡ distinct facts → length (take (k - 0) read) ≡ length thin → n ≤ length (take (k - 0) read) →
-    map fact_of (take n thin) ≡ thinned c (map fact_of (take (k - 0) read)) (length (map fact_of (take (k - 0) read))) (map fact_of (take (k - 0) read)) → map fact_of (take (n - 0) (thin ++ rest)) ≡ core c facts
-core_left c facts read thin rest k n d m l t =
-    let e : k - 0 ≡ k = omega arith in
-    let z : n - 0 ≡ n = omega arith in
-    let own : map fact_of (take (k - 0) read) ≡ distinct facts = ap (λ (j : ℕ). map fact_of (take j read)) e ∙ d in
-    ap (λ (j : ℕ). map fact_of (take j (thin ++ rest))) z
-    ∙ ap (map fact_of) (take-append-le n thin rest (omega (arith, m, l)))
-    ∙ t
-    ∙ ap (λ (gs : Instance). thinned c gs (length gs) gs) own
-    ∙ sym (thinned_distinct c facts (length (distinct facts)) (distinct facts))
