@@ -23,3 +23,4 @@ mod Thinned
 mod Once
 mod Written
 mod Positions
+mod Held
