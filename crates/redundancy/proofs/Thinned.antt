@@ -151,3 +151,22 @@ thinned_distinct c u i w = thinned_part c u (distinct u) (distinct_within u) (di
 pub block_places : (c : ℕ) (facts : Instance) (place : ℕ) (order : List ℕ) (count n : ℕ) → Block c facts place order count → length facts ≡ n → Places n (take count order)
 unfolding Places
 block_places c facts place order count n b e = λ i h. subst (λ (z : ℕ). i < z) e (place_at (length facts) order b.places i (in_take count order h))
+
+-- IN MEMORY
+pub removed_map : {A B : Type 0} (f : A → B) (xs : List A) (i : ℕ) → map f (remove xs i) ≡ remove (map f xs) i
+removed_map {A} {B} f xs i = map-append f (take i xs) (drop (suc i) xs) ∙ ap₂ {C = List B} (λ (ys zs : List B). ys ++ zs) (sym (take-map f i xs)) (sym (drop-map f (suc i) xs))
+
+-- one step, at the place before i
+module _ (c : ℕ) (u : Instance) (facts seen : List code.Fact) (i : ℕ) (l : 0 < i) (is : seen ≡ facts) (s : Sparing c u i (map fact_of facts)) (r : Bool)
+    (d : Decides r (Homomorphism c (map fact_of seen) (remove (map fact_of seen) (i - 1)))) where
+  before : Sparing c u (suc (i - 1)) (map fact_of facts)
+  before = let e : i ≡ suc (i - 1) = omega arith in subst (λ (k : ℕ). Sparing c u k (map fact_of facts)) e s
+
+  answer : Decides r (Homomorphism c (map fact_of facts) (remove (map fact_of facts) (i - 1)))
+  answer = subst (λ (gs : List code.Fact). Decides r (Homomorphism c (map fact_of gs) (remove (map fact_of gs) (i - 1)))) is d
+
+  pub one_stays : r ≡ false → Sparing c u (i - 1) (map fact_of facts)
+  one_stays e = sparing_left c u (i - 1) (map fact_of facts) before r answer e
+
+  pub one_goes : r ≡ true → (left : List code.Fact) → left ≡ remove facts (i - 1) → Sparing c u (i - 1) (map fact_of left)
+  one_goes e left p = subst (Sparing c u (i - 1)) (sym (ap (map fact_of) p ∙ removed_map fact_of facts (i - 1))) (sparing_taken c u (i - 1) (map fact_of facts) before r answer e)

@@ -20,7 +20,8 @@ fn can_spare(facts: &[Fact], place: usize, c: u64) -> bool
     let mut order = [0; FACTS_ROOM];
     let order = &mut order[..facts.len()];
     let count = order_block(facts, place, order, c);
-    search(&order[..count], facts, place, &mut Bounded::new((0, 0)), c)
+    let mut pairs = Bounded::new((0, 0));
+    search(&order[..count], facts, place, &mut pairs, c)
 }
 
 // Takes out each fact that can be spared, from the last to the first.
