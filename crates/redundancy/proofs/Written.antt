@@ -69,3 +69,7 @@ module _ (c : ℕ) (reading : Result Instance (ℕ × ℕ)) (facts : Instance) (
   core_means =
       let r = core_right c facts in
       (facts, h, count ∙ ap length (is ∙ sym reads), subst (Core c facts) (sym reads) r.0, subst Distinct (sym reads) r.1, subst (UniversalToo c facts) (sym reads) (universal_too c facts))
+
+-- the distinct facts, thinned, are the core
+pub core_left : (c : ℕ) (facts read left : Instance) → read ≡ distinct facts → left ≡ thinned c read (length read) read → left ≡ core c facts
+core_left c facts read left d t = t ∙ ap (λ (gs : Instance). thinned c gs (length gs) gs) d ∙ sym (thinned_distinct c facts (length (distinct facts)) (distinct facts))
