@@ -1,14 +1,11 @@
 -- Dependencies that are judged one after the other: what is left without one of them, and the flags of those that stay.
 use Rattle.std.proofs.Common.{◌≡◌, ℕ, suc, ◌+◌, ◌-◌, ◌<◌, ◌≤◌, Bool, true, false, List, [], ◌∷◌, ◌++◌, map, length, get_or, take, drop, set, replicate, Ok, Err, Result, sym, refl, ap, ◌∙◌, subst, ap₂, arith}
-use borrow.Rule.Slice.PartMut.{put_mid}
 use Rattle.std.specs.List.{remove}
 use Rattle.std.proofs.lemmas.List.Edits.{length-remove}
-use Rattle.std.proofs.lemmas.List.{append_assoc, append-nil, length-append, length-take-le, length-drop, length-set, map-append, take-map, drop-map, take-take, drop-take, take-append-drop, take_at, drop_at, take_more, drop_more, drop_all, take_more_set, drop-set-lt}
+use Rattle.std.proofs.lemmas.List.{append_assoc, append-nil, length-append, length-take-le, length-drop, length-set, map-append, take-map, drop-map, take-take, drop-take, take-append-drop, take_at, drop_at, take_more, drop_more, drop_all, take_more_set, drop-set-lt, get_or-map}
 use Rattle.relational.specs.Instances.{In, Within, Dependency}
-use Rattle.relational.specs.Represented.{dependency_of}
-use Rattle.relational.specs.Requests.{dependencies_of}
-use Rattle.relational.specs.declared.request.Dependencies.{Dependencies}
-use Rattle.relational.proofs.Members.{in_at, in_right, in_take, in_within, within_refl, within_trans, within_append}
+use Rattle.relational.proofs.Members.{in_at, in_within, within_refl, within_trans}
+use Rattle.redundancy.proofs.Cores.{removed_within}
 use Rattle.redundancy.specs.Tgds.{is_tgd, OnlyTgds}
 use Rattle.redundancy.specs.Implications.{implication}
 use Rattle.redundancy.specs.Reductions.{flagged, next_flagged, reduction_from}
@@ -43,11 +40,6 @@ judging_begins c ds = record {
   within = within_refl ds;
   flags = flags_none (reduction_from c [] ds);
 }
-
--- what is left without one of them
-removed_within : {A : Type 0} (xs : List A) (i : ℕ) → Within (remove xs i) xs
-unfolding Within
-removed_within {A} xs i = within_append (take i xs) (drop (suc i) xs) xs (λ a k. in_take i xs k) (λ a k. subst (In a) (take-append-drop (suc i) xs) (in_right (take (suc i) xs) k))
 
 module _ (c : ℕ) (ds left : List Dependency) (at i : ℕ) (stays : List Bool) (h : JudgedSoFar c ds left at i stays) (inside : i < length ds) (d asked : Dependency) (is : get_or ds i d ≡ asked) where
   rest_ahead : drop i ds ≡ asked ∷ drop (i + 1) ds
@@ -127,3 +119,7 @@ others_tgds c ds left at i stays es h o e = subst OnlyTgds (sym e) (only_within 
 pub tgd_at : (ds : List Dependency) (i : ℕ) (d asked : Dependency) → OnlyTgds ds → i < length ds → get_or ds i d ≡ asked → is_tgd asked ≡ true
 unfolding OnlyTgds
 tgd_at ds i d asked o l e = subst (λ (t : Dependency). is_tgd t ≡ true) e (o (get_or ds i d) (in_at ds i d l))
+
+-- AS THEY LIE IN MEMORY
+pub item_at : {A B : Type 0} (f : A → B) (xs : List A) (i : ℕ) (x : A) → i < length xs → x ≡ get_or xs i x → get_or (map f xs) i (f x) ≡ f x
+item_at f xs i x l e = get_or-map f xs i x (f x) l ∙ ap f (sym e)

@@ -1,14 +1,25 @@
 // Leaving out the tgds that the others imply.
-ghost use Rattle.std.specs.Prelude.{◌≡◌, ◌+◌, ◌^◌, ◌<◌, ◌≤◌, []};
+ghost use Rattle.std.specs.Prelude.{◌≡◌, ◌+◌, ◌^◌, ◌<◌, ◌≤◌, [], map};
 ghost use Rattle.redundancy.specs.Reductions.{ReductionMeans, reduction_answered, reduction_from};
 ghost use Rattle.redundancy.specs.Tgds.{OnlyTgds};
 ghost use Rattle.relational.specs.Elements.{elements};
 ghost use Rattle.relational.specs.Readings.{judged};
+ghost use Rattle.relational.specs.Represented.{dependency_of};
 ghost use Rattle.relational.specs.Requests.{dependencies_of};
 
 use crate::judge::judge;
 use crate::rules::{read_tgds, tgds_fault};
-use relational::{Bounded, Dependencies, Refusal};
+use relational::{Bounded, Dependencies, Dependency, Refusal};
+
+// The dependencies, to take some of them out.
+fn all_of(dependencies: &Dependencies) -> Bounded<Dependency, 16>
+    ensures { map dependency_of (elements result) ≡ dependencies_of dependencies.now }
+{
+    Bounded {
+        count: dependencies.count,
+        items: dependencies.items,
+    }
+}
 
 // Judges the tgds one after the other, each beside those that stay and those still to be judged.
 fn judge_each(tgds: &Dependencies, c: u64) -> Result<Bounded<bool, 16>, Refusal>
@@ -17,10 +28,7 @@ fn judge_each(tgds: &Dependencies, c: u64) -> Result<Bounded<bool, 16>, Refusal>
     ensures { judged elements result ≡ reduction_from c [] (dependencies_of tgds.now) }
 {
     let mut stays = Bounded::new(true);
-    let mut left = Bounded {
-        count: tgds.count,
-        items: tgds.items,
-    };
+    let mut left = all_of(tgds);
     let mut at = 0;
     for asked in &tgds.items[..tgds.count] {
         let mut others = left;
