@@ -1,9 +1,9 @@
 -- Dependencies that are judged one after the other: what is left without one of them, and the flags of those that stay.
-use Rattle.std.proofs.Common.{◌≡◌, ℕ, suc, ◌+◌, ◌-◌, ◌<◌, ◌≤◌, Bool, true, false, List, [], ◌∷◌, ◌++◌, map, length, get_or, take, drop, set, replicate, Ok, Err, Result, sym, refl, ap, ◌∙◌, subst, ap₂, arith}
+use Rattle.std.proofs.Common.{◌≡◌, ℕ, suc, ◌+◌, ◌<◌, ◌≤◌, Bool, true, false, List, [], ◌∷◌, ◌++◌, map, length, get_or, take, drop, Ok, Err, Result, sym, refl, ap, ◌∙◌, subst, arith}
 use Rattle.std.specs.List.{remove}
 use Rattle.std.proofs.lemmas.List.Edits.{length-remove}
-use Rattle.std.proofs.lemmas.List.{append_assoc, append-nil, length-append, length-take-le, length-drop, length-set, map-append, take-map, drop-map, take-take, drop-take, take-append-drop, take_at, drop_at, take_more, drop_more, drop_all, take_more_set, drop-set-lt, get_or-map}
-use Rattle.relational.specs.Instances.{In, Within, Dependency}
+use Rattle.std.proofs.lemmas.List.{append_assoc, append-nil, length-take-le, take_at, drop_at, take_more, drop_more, drop_all, get_or-map}
+use Rattle.relational.specs.Instances.{Within, Dependency}
 use Rattle.relational.proofs.Members.{in_at, in_within, within_refl, within_trans}
 use Rattle.redundancy.proofs.Cores.{removed_within}
 use Rattle.redundancy.specs.Tgds.{is_tgd, OnlyTgds}

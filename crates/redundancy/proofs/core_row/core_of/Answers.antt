@@ -1,7 +1,6 @@
-use Rattle.std.proofs.Common.{map, length, sym, ap, ◌∙◌, arith, ltb-false, ltb-true}
+use Rattle.std.proofs.Common.{map, length, ap, ◌∙◌, arith, ltb-false, ltb-true}
 use Rattle.relational.specs.Elements.{elements}
 use Rattle.relational.specs.Represented.{fact_of}
-use Rattle.std.proofs.lemmas.List.{length-append, length-take, length-drop}
 use Rattle.std.proofs.lemmas.Result.{err_from_is_err_and}
 use Rattle.relational.specs.Layout.{facts_in}
 use Rattle.redundancy.proofs.Written.{stored_short, refused_says, refused_means, reading_none, reading_null, reading_room, reading_ok, core_says, core_means, core_left}

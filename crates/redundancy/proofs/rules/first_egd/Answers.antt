@@ -1,4 +1,4 @@
-use Rattle.std.proofs.Common.{◌≡◌, not, Option, ℕ, sym, ◌∙◌, rules}
+use Rattle.std.proofs.Common.{◌≡◌, not, ◌∙◌, rules}
 use borrow.Author.Tests.{tests}
 use Rattle.std.specs.List.{position_from}
 use Rattle.std.proofs.lemmas.Iterator.{YieldsList-from_slice}

@@ -1,4 +1,4 @@
-use Rattle.std.proofs.Common.{◌≡◌, map, sym, refl, ap, ◌∙◌, arith}
+use Rattle.std.proofs.Common.{map, sym, refl, ◌∙◌, arith}
 use Rattle.std.proofs.lemmas.List.{length-map}
 use Rattle.relational.specs.Elements.{elements}
 use Rattle.relational.specs.Represented.{fact_of}

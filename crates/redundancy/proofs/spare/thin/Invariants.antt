@@ -1,4 +1,4 @@
-use Rattle.std.proofs.Common.{◌≡◌, ◌≤◌, map}
+use Rattle.std.proofs.Common.{◌≤◌, map}
 use Rattle.relational.specs.Elements.{elements}
 use Rattle.relational.specs.Represented.{fact_of}
 use Rattle.redundancy.proofs.Thinned.{Sparing}
