@@ -1,5 +1,5 @@
 // Up to so many elements, in fixed memory.
-ghost use Rattle.std.specs.Prelude.{◌≡◌, ◌≤◌, ◌<◌, ◌+◌, ◌++◌, [], ◌∷◌, length, take, min, ⊤};
+ghost use Rattle.std.specs.Prelude.{◌≡◌, ◌≤◌, ◌<◌, ◌+◌, ◌++◌, [], ◌∷◌, length, replicate, take, min, ⊤};
 
 use std::alloc::AllocError;
 
@@ -29,7 +29,9 @@ impl<T: Copy, const N: usize> Bounded<T, N> {
 
     // No element, with `unused` in the room.
     pub fn new(unused: T) -> Self
-        ensures { elements result ≡ [] }
+        ensures none { elements result ≡ [] }
+        ensures count { result.count ≡ 0 }
+        ensures filled { result.items ≡ replicate N unused }
     {
         Bounded {
             count: 0,

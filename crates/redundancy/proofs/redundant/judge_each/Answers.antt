@@ -16,7 +16,7 @@ use Rattle.redundancy.proofs.redundant.judge_each.Goals.{then-implied, else-impl
 pub loop-asked-init : goal.loop-asked-init
 loop-asked-init c =
     let ds = dependencies_of c.args.tgds.now in
-    (rw (c.all_of-left.ensures, c.new-stays.ensures) (judging_begins c.args.c ds), omega (arith, elements_count c.new-stays.result, ap length c.new-stays.ensures))
+    (rw (c.all_of-left.ensures, c.new-stays.ensures.none) (judging_begins c.args.c ds), c.new-stays.ensures.count)
 
 -- what is left without the one that is asked about
 others : (c : After-remove) → map dependency_of (elements c.remove.new.self) ≡ remove (map dependency_of (elements c.loop-asked.left)) c.loop-asked.at
@@ -27,20 +27,15 @@ asked_beside : (c : After-judge) → (es : List Dependency) → map dependency_o
     implication c.args.c (map dependency_of c.as_slice.result.now) (dependency_of c.asked-item.result) ≡ implication c.args.c es (dependency_of c.asked-item.result)
 asked_beside c es e = ap (λ (ds : List Dependency). implication c.args.c ds (dependency_of c.asked-item.result)) (ap (map dependency_of) c.as_slice.ensures ∙ e)
 
-pub remove-requires : goal.remove-requires
-remove-requires c =
-    let items = take c.args.tgds.now.count c.args.tgds.now.items in
-    (omega arith, omega (arith, length-map items dependency_of, length-map (elements c.loop-asked.left) dependency_of, elements_count c.loop-asked.left, c.loop-asked.invariant.0.count))
+pub judge-requires-clause-tgds : goal.judge-requires-clause-tgds
+judge-requires-clause-tgds c =
+    let es = ap (map dependency_of) c.as_slice.ensures ∙ others (goal.at.judge-requires-clause-tgds c).After-remove in
+    others_tgds c.args.c (dependencies_of c.args.tgds.now) (map dependency_of (elements c.loop-asked.left)) c.loop-asked.at c.loop-asked.asked-index (elements c.loop-asked.stays) _ c.loop-asked.invariant.0 c.requires.tgds es
 
-pub judge-requires : goal.judge-requires
-judge-requires c =
+pub judge-requires-clause-asked : goal.judge-requires-clause-asked
+judge-requires-clause-asked c =
     let items = take c.args.tgds.now.count c.args.tgds.now.items in
-    let es = ap (map dependency_of) c.as_slice.ensures ∙ others (goal.at.judge-requires c).After-remove in
-    record {
-      tgds = others_tgds c.args.c (dependencies_of c.args.tgds.now) (map dependency_of (elements c.loop-asked.left)) c.loop-asked.at c.loop-asked.asked-index (elements c.loop-asked.stays) _ c.loop-asked.invariant.0 c.requires.tgds es;
-      asked = tgd_at (dependencies_of c.args.tgds.now) c.loop-asked.asked-index (dependency_of c.asked-item.result) _ c.requires.tgds (omega (arith, length-map items dependency_of)) (item_at dependency_of items c.loop-asked.asked-index c.asked-item.result (omega arith) c.asked-item.is);
-      first = c.requires.first;
-    }
+    tgd_at (dependencies_of c.args.tgds.now) c.loop-asked.asked-index (dependency_of c.asked-item.result) _ c.requires.tgds (omega (arith, length-map items dependency_of)) (item_at dependency_of items c.loop-asked.asked-index c.asked-item.result (omega arith) c.asked-item.is)
 
 pub returns-in_err-implied : goal.returns-in_err-implied
 returns-in_err-implied c =
