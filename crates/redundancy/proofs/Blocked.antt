@@ -62,9 +62,6 @@ pub record Scanned (c : ℕ) (facts : Instance) (place : ℕ) (order : List ℕ)
   pub behind : count ≤ i
   pub apart : (p : ℕ) → count ≤ p → p < i → NoSharedNull c (fact_at facts order p) (fact_at facts order k)
 
-pub scan_begin : (c : ℕ) (facts : Instance) (place : ℕ) (order : List ℕ) (k count : ℕ) → Arranged c facts place order k count → k < count → Scanned c facts place order k count count
-scan_begin c facts place order k count a l = record { arranged = a; looking = l; behind = omega arith; apart = λ p h m. absurd (omega (arith, h, m)) }
-
 module _ (c : ℕ) (facts : Instance) (place : ℕ) (order : List ℕ) (k count i : ℕ) (s : Scanned c facts place order k count i) where
   -- one that shares no null
   pub scan_past : NoSharedNull c (fact_at facts order i) (fact_at facts order k) → Scanned c facts place order k count (i + 1)
@@ -128,22 +125,6 @@ module _ (c : ℕ) (facts : Instance) (place : ℕ) (order : List ℕ) (k count 
               (subst (λ x. NoSharedNull c (fact_at facts order count) (get_or facts x no_fact)) (sym (kept k s.looking)) (s.apart count (omega arith) (omega (arith, h, m))))
               (λ n. subst (λ x. NoSharedNull c (fact_at facts order p) (get_or facts x no_fact)) (sym (kept k s.looking)) (s.apart p (omega arith) (omega (arith, n))));
         }
-
-  -- all have been looked at
-  pub scan_end : length order ≤ i → Arranged c facts place order (k + 1) count
-  scan_end l =
-      let a = s.arranged in
-      record {
-        places = a.places;
-        all = a.all;
-        some = a.some;
-        few = a.few;
-        first = a.first;
-        closed = λ p q h m b. elim (cases_eq q k) [
-          | inl e ↦ subst (λ (z : ℕ). NoSharedNull c (fact_at facts order p) (fact_at facts order z)) (sym e) (s.apart p h (omega arith))
-          | inr n ↦ a.closed p q h m (omega (arith, n))
-        ];
-      }
 
 -- at first the block has the one place
 pub arranged_begin : (c : ℕ) (facts : Instance) (place : ℕ) (plain order : List ℕ) → ((p : ℕ) → p < length plain → get_or plain p 0 ≡ p) → length plain ≡ length facts → length order ≡ length plain → place < length facts →

@@ -1,5 +1,5 @@
 -- What the flags of tgds that were judged one after the other mean.
-use Rattle.std.proofs.Common.{◌≡◌, ℕ, suc, Bool, true, false, List, [], ◌∷◌, ◌++◌, map, length, take, is_err, None, Ok, Err, Option, Result, sym, refl, ap, ◌∙◌, subst, append_assoc, append-nil, arith}
+use Rattle.std.proofs.Common.{◌≡◌, ℕ, suc, Bool, true, false, List, [], ◌∷◌, ◌++◌, map, length, take, is_err, None, Ok, Err, Result, sym, refl, ap, subst, append_assoc, append-nil, arith}
 use Rattle.std.proofs.lemmas.Bool.{false≢true}
 use Rattle.relational.specs.Instances.{In, here, Within, Dependency, body_of, DependencyBelow, DependenciesBelow}
 use Rattle.relational.specs.Elements.{elements}
@@ -13,9 +13,9 @@ use Rattle.relational.specs.declared.refusal.Refusal.{Refusal}
 use Rattle.relational.proofs.Members.{in_right, in_within, in_map_inv}
 use Rattle.redundancy.specs.Tgds.{is_tgd, OnlyTgds}
 use Rattle.redundancy.specs.Implied.{Implies, VariablesBelow}
-use Rattle.redundancy.specs.Implications.{unless_at, tgds_reading, tgds_fault, implication, Refuted}
+use Rattle.redundancy.specs.Implications.{tgds_reading, tgds_fault, implication, Refuted}
 use Rattle.redundancy.specs.Reduced.{Reduced, judged as all_judged, goes, remains}
-use Rattle.redundancy.specs.Reductions.{next_flagged, reduction_from, tgds_reduced, reduction_answered, staying, ReductionMeans}
+use Rattle.redundancy.specs.Reductions.{next_flagged, reduction_from, staying, ReductionMeans}
 use Rattle.redundancy.proofs.Asking.{tgds_known, no_fault, implication_true, implication_false}
 use Rattle.redundancy.proofs.Judging.{body_small}
 use Rattle.redundancy.proofs.Reduced.{within_one_more, reduced_right}
@@ -99,10 +99,6 @@ flags_right c stay (d ∷ rest) flags j e =
     flags (implication c (stay ++ rest) d) refl (reduction_from c stay rest) (reduction_from c (stay ++ d ∷ []) rest) refl refl e
 
 -- WHAT IS ANSWERED
-pub reduction_answer : (rules : List ℕ) (c : ℕ) (ds : List Dependency) (fault : Option ℕ) → Ok ds ≡ tgds_reading rules → fault ≡ tgds_fault c ds →
-    unless_at 3 fault (reduction_from c [] ds) ≡ reduction_answered rules c
-reduction_answer rules c ds fault p e = ap (λ (o : Option ℕ). unless_at 3 o (reduction_from c [] ds)) e ∙ ap (tgds_reduced c) p
-
 pub reduction_refused : (rules : List ℕ) (r : Result (Bounded Bool 16) Refusal) → is_err r ≡ true → ReductionMeans rules r
 unfolding ReductionMeans
 reduction_refused rules (Ok r) e = absurd (false≢true e)

@@ -37,6 +37,7 @@ pub fn read_distinct(row: &[u64], count: usize) -> Bounded<Fact, FACTS_ROOM>
         count: 0,
         values: [0; 4],
     });
+    // By number: the place of a fact in the row follows from it.
     for i in 0..count {
         let Some(fact) = Fact::read(&row[6 * i + 1..]) else {
             unreachable()

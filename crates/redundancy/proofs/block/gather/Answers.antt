@@ -4,7 +4,7 @@ use Rattle.relational.specs.Instances.{Fact}
 use Rattle.relational.specs.Represented.{fact_of}
 use Rattle.redundancy.specs.Blocks.{NoSharedNull}
 use Rattle.redundancy.proofs.Extended.{stored_at}
-use Rattle.redundancy.proofs.Blocked.{fact_at, scan_begin, scan_past, scan_swap, scan_end}
+use Rattle.redundancy.proofs.Blocked.{fact_at, scan_past, scan_swap}
 use Rattle.redundancy.proofs.block.gather.Goals as goal
 use Rattle.redundancy.proofs.block.gather.Goals.{then-not-are_apart, else-not-are_apart}
 

@@ -3,7 +3,7 @@ use Rattle.std.proofs.lemmas.List.{length-set, length-map}
 use Rattle.relational.specs.Instances.{Fact}
 use Rattle.relational.specs.Layout.{fact_row}
 use Rattle.relational.specs.Represented.{fact_of}
-use Rattle.chase.proofs.Loading.{loads_begin, fact_loaded, loads_end}
+use Rattle.chase.proofs.Loading.{loads_begin, fact_loaded}
 use Rattle.redundancy.specs.Mappings.{no_fact}
 use Rattle.redundancy.proofs.Extended.{stored_at}
 use Rattle.redundancy.proofs.Written.{stored_short}

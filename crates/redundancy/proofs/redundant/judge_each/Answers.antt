@@ -7,7 +7,6 @@ use Rattle.relational.specs.Instances.{Dependency}
 use Rattle.relational.specs.Represented.{dependency_of}
 use Rattle.relational.specs.Requests.{dependencies_of}
 use Rattle.redundancy.specs.Implications.{implication}
-use Rattle.redundancy.proofs.Held.{elements_count}
 use Rattle.redundancy.proofs.Thinned.{removed_map}
 use Rattle.redundancy.proofs.Removing.{JudgedSoFar, judging_begins, one_goes, one_stays, one_refused, judging_ends, others_tgds, tgd_at, item_at}
 use Rattle.redundancy.proofs.redundant.judge_each.Goals as goal

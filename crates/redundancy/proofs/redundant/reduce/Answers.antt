@@ -1,8 +1,7 @@
-use Rattle.std.proofs.Common.{Some, None, ◌∙◌, rules}
 use Rattle.relational.specs.Requests.{dependencies_of}
 use Rattle.redundancy.specs.Reductions.{ReductionMeans}
-use Rattle.redundancy.proofs.Asking.{tgds_known, no_fault}
-use Rattle.redundancy.proofs.Reducing.{reduction_answer, reduction_refused, reduction_means}
+use Rattle.redundancy.proofs.Asking.{tgds_known}
+use Rattle.redundancy.proofs.Reducing.{reduction_refused, reduction_means}
 use Rattle.redundancy.proofs.redundant.reduce.Goals as goal
 
 pub returns-in_err-tgds-clause-means : goal.returns-in_err-tgds-clause-means

@@ -1,11 +1,10 @@
-use Rattle.std.proofs.Common.{ℕ, map, length, replicate, sym, ap, subst, arith}
-use Rattle.std.proofs.lemmas.List.{length-map, length-take}
+use Rattle.std.proofs.Common.{map, sym, subst, arith}
+use Rattle.std.proofs.lemmas.List.{length-map}
 use Rattle.relational.specs.Elements.{elements}
 use Rattle.relational.specs.Instances.{Instance}
 use Rattle.relational.specs.Represented.{fact_of}
 use Rattle.redundancy.specs.Mappings.{Consistent}
 use Rattle.redundancy.proofs.Extended.{consistent_none}
-use Rattle.redundancy.proofs.Held.{elements_count}
 use Rattle.redundancy.proofs.Thinned.{block_decides, block_places}
 use Rattle.redundancy.proofs.spare.can_spare.Goals as goal
 
