@@ -1,48 +1,54 @@
 -- Whether facts share a null; and the order of places in which a block comes first.
-use Rattle.std.proofs.Common.{◌≡◌, ℕ, ◌+◌, ◌<◌, ◌≤◌, Bool, eqb, ◌⊎◌, List, length, get_or, take, Decides, sym, ap, ◌∙◌, subst, inl, inr, arith}
-use Rattle.std.specs.List.{IsAnyAnswer}
-use Rattle.std.proofs.lemmas.List.Elements.{contains_decides}
+use Rattle.std.proofs.Common.{◌≡◌, ℕ, ◌+◌, ◌<◌, ◌≤◌, Bool, true, false, eqb, ltb, not, ◌||◌, ◌⊎◌, List, [], ◌∷◌, refl, length, get_or, take, Decides, sym, ap, ◌∙◌, subst, inl, inr, arith}
+use Rattle.std.specs.List.{list_all, list_any}
+use Rattle.std.proofs.lemmas.List.Folds.{list_any_at}
 use Rattle.std.proofs.lemmas.List.{length-take-le, length-drop, get_or-take, get_or-drop}
-use Rattle.std.proofs.lemmas.Bool.{cases_eq}
-use Rattle.relational.specs.Instances.{In, Fact, Instance}
+use Rattle.std.proofs.lemmas.Bool.{cases_eq, or_cases, and_from, eq-eqb, eqb-true, lt-ltb, ltb-true, false≢true}
+use Rattle.relational.specs.Instances.{In, here, there, Fact, Instance}
 use Rattle.relational.proofs.Members.{in_at, in_place}
+use Rattle.relational.proofs.Testing.{every_in, any_in}
 use Rattle.redundancy.specs.Mappings.{no_fact, Places}
 use Rattle.redundancy.specs.Blocks.{NoSharedNull, Block, Arranged}
-use Rattle.std.proofs.lemmas.Bool.Decides.{Decides-eqb}
 
 -- WHETHER FACTS ARE APART
-pub contained : (xs : List ℕ) (x : ℕ) (r : Bool) → IsAnyAnswer (λ (y : ℕ) (t : Bool). eqb y x ≡ t) xs r → Decides r (In x xs)
-contained xs x r h =
-    let d = contains_decides eqb Decides-eqb xs x r h in (
-      (λ e. let t = d.0 e in subst (λ z. In z xs) (t.2 0) (in_at xs t.0 0 t.1)),
-      λ i. let t = in_place i in d.1 (t.0, t.1, t.2),
-    )
+or_true : (b : Bool) → (b || true) ≡ true
+or_true true = refl
+or_true false = refl
 
--- the first i of the values that stand in the other fact are constants
-abbrev pub Low : (c : ℕ) (values other : List ℕ) (i : ℕ) → Type 0
-Low c values other i = (p : ℕ) → p < i → In (get_or values p 0) other → get_or values p 0 < c
+module _ (c : ℕ) (others : List ℕ) where
+  -- a number is a constant, or stands not among the others
+  abbrev apart_at : ℕ → Bool
+  apart_at n = ltb n c || not (list_any (λ (m : ℕ). eqb m n) others)
 
-pub low_more : (c : ℕ) (values other : List ℕ) (i : ℕ) → Low c values other i → (In (get_or values i 0) other → get_or values i 0 < c) → Low c values other (i + 1)
-low_more c values other i h k = λ p l m. elim (cases_eq p i) [
-  | inl e ↦ subst (λ (z : ℕ). get_or values z 0 < c) (sym e) (k (subst (λ (z : ℕ). In (get_or values z 0) other) e m))
-  | inr n ↦ h p (omega (arith, n)) m
-]
+  below_told : (n : ℕ) → apart_at n ≡ true → In n others → n < c
+  below_told n e i = elim (or_cases (ltb n c) (not (list_any (λ (m : ℕ). eqb m n) others)) e) [
+    | inl h ↦ ltb-true n c h
+    | inr h ↦
+        let t = in_place i in
+        let stands = list_any_at (λ (m : ℕ). eqb m n) others t.0 0 t.1 (eq-eqb (get_or others t.0 0) n (t.2 0)) in
+        absurd (false≢true (ap not (sym stands) ∙ h))
+  ]
 
-module _ (c k : ℕ) (values : List ℕ) (few : k ≤ length values) (g : Fact) (relation : ℕ) where
-  pub low_all : (i : ℕ) → k ≤ i → Low c values g.values i → NoSharedNull c (record { relation = relation; values = take k values }) g
-  unfolding NoSharedNull
-  low_all i l h = λ n m j.
-      let t = in_place m in
-      let b : t.0 < k = omega (arith, t.1, length-take-le k values few) in
-      let e : get_or values t.0 0 ≡ n = sym (get_or-take k values t.0 0 b) ∙ t.2 0 in
-      subst (λ (z : ℕ). z < c) e (h t.0 (omega arith) (subst (λ z. In z g.values) (sym e) j))
+  told_below : (n : ℕ) → (In n others → n < c) → apart_at n ≡ true
+  told_below n h = go (list_any (λ (m : ℕ). eqb m n) others) refl
+    where
+      go : (b : Bool) → list_any (λ (m : ℕ). eqb m n) others ≡ b → (ltb n c || not b) ≡ true
+      go true e =
+          let t = any_in (λ (m : ℕ). eqb m n) others e in
+          let l = lt-ltb n c (h (subst (λ (z : ℕ). In z others) (eqb-true t.0 n t.2) t.1)) in
+          simp l
+      go false e = or_true (ltb n c)
 
-  pub low_not : (i : ℕ) → i < k → c ≤ get_or values i 0 → In (get_or values i 0) g.values → NoSharedNull c (record { relation = relation; values = take k values }) g → ⊥
-  unfolding NoSharedNull
-  low_not i l h j a =
-      let e = get_or-take k values i 0 l in
-      let m : In (get_or values i 0) (take k values) = subst (λ z. In z (take k values)) e (in_at (take k values) i 0 (omega (arith, length-take-le k values few))) in
-      omega (arith, a (get_or values i 0) m j)
+  all_told : (ns : List ℕ) → ((n : ℕ) → In n ns → In n others → n < c) → list_all apart_at ns ≡ true
+  all_told [] h = refl
+  all_told (n ∷ ns) h = and_from (apart_at n) (list_all apart_at ns) (told_below n (h n here)) (all_told ns (λ m i. h m (there i)))
+
+pub apart_decides : (c : ℕ) (f g : Fact) (r : Bool) → r ≡ list_all (λ (n : ℕ). ltb n c || not (list_any (λ (m : ℕ). eqb m n) g.values)) f.values → Decides r (NoSharedNull c f g)
+unfolding NoSharedNull
+apart_decides c f g r e = (
+  (λ t. λ n i j. below_told c g.values n (every_in (apart_at c g.values) f.values n (sym e ∙ t) i) j),
+  λ h. e ∙ all_told c g.values f.values h,
+)
 
 -- THE ORDER
 -- the fact at a position of the order
@@ -55,9 +61,6 @@ pub record Scanned (c : ℕ) (facts : Instance) (place : ℕ) (order : List ℕ)
   pub looking : k < count
   pub behind : count ≤ i
   pub apart : (p : ℕ) → count ≤ p → p < i → NoSharedNull c (fact_at facts order p) (fact_at facts order k)
-
-pub scan_begin : (c : ℕ) (facts : Instance) (place : ℕ) (order : List ℕ) (k count : ℕ) → Arranged c facts place order k count → k < count → Scanned c facts place order k count count
-scan_begin c facts place order k count a l = record { arranged = a; looking = l; behind = omega arith; apart = λ p h m. absurd (omega (arith, h, m)) }
 
 module _ (c : ℕ) (facts : Instance) (place : ℕ) (order : List ℕ) (k count i : ℕ) (s : Scanned c facts place order k count i) where
   -- one that shares no null
@@ -122,22 +125,6 @@ module _ (c : ℕ) (facts : Instance) (place : ℕ) (order : List ℕ) (k count 
               (subst (λ x. NoSharedNull c (fact_at facts order count) (get_or facts x no_fact)) (sym (kept k s.looking)) (s.apart count (omega arith) (omega (arith, h, m))))
               (λ n. subst (λ x. NoSharedNull c (fact_at facts order p) (get_or facts x no_fact)) (sym (kept k s.looking)) (s.apart p (omega arith) (omega (arith, n))));
         }
-
-  -- all have been looked at
-  pub scan_end : length order ≤ i → Arranged c facts place order (k + 1) count
-  scan_end l =
-      let a = s.arranged in
-      record {
-        places = a.places;
-        all = a.all;
-        some = a.some;
-        few = a.few;
-        first = a.first;
-        closed = λ p q h m b. elim (cases_eq q k) [
-          | inl e ↦ subst (λ (z : ℕ). NoSharedNull c (fact_at facts order p) (fact_at facts order z)) (sym e) (s.apart p h (omega arith))
-          | inr n ↦ a.closed p q h m (omega (arith, n))
-        ];
-      }
 
 -- at first the block has the one place
 pub arranged_begin : (c : ℕ) (facts : Instance) (place : ℕ) (plain order : List ℕ) → ((p : ℕ) → p < length plain → get_or plain p 0 ≡ p) → length plain ≡ length facts → length order ≡ length plain → place < length facts →

@@ -96,7 +96,7 @@ within_distinct facts = λ f i. elim (distinct_has [] facts f i) [ inl k ↦ abs
 in_drop : {A : Type 0} {a : A} (i : ℕ) (xs : List A) → In a (drop i xs) → In a xs
 in_drop {A} {a} i xs h = subst (In a) (take-append-drop i xs) (in_right (take i xs) h)
 
-pub removed_within : (w : Instance) (i : ℕ) → Within (remove w i) w
+pub removed_within : {A : Type 0} (w : List A) (i : ℕ) → Within (remove w i) w
 unfolding Within
 removed_within w i = λ f h. elim (in_append (take i w) h) [ inl k ↦ in_take i w k | inr k ↦ in_drop (suc i) w k ]
 

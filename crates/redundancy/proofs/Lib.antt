@@ -22,3 +22,5 @@ mod Blocked
 mod Thinned
 mod Once
 mod Written
+mod Positions
+mod Held

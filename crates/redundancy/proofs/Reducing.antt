@@ -1,20 +1,20 @@
 -- What the flags of tgds that were judged one after the other mean.
-use Rattle.std.proofs.Common.{◌≡◌, ℕ, suc, Bool, true, false, List, [], ◌∷◌, ◌++◌, map, length, take, is_err, None, Ok, Err, Option, Result, sym, refl, ap, ◌∙◌, subst, append_assoc, append-nil, arith}
+use Rattle.std.proofs.Common.{◌≡◌, ℕ, suc, Bool, true, false, List, [], ◌∷◌, ◌++◌, map, length, take, is_err, None, Ok, Err, Result, sym, refl, ap, subst, append_assoc, append-nil, arith}
 use Rattle.std.proofs.lemmas.Bool.{false≢true}
 use Rattle.relational.specs.Instances.{In, here, Within, Dependency, body_of, DependencyBelow, DependenciesBelow}
+use Rattle.relational.specs.Elements.{elements}
 use Rattle.relational.specs.Readings.{judged}
 use Rattle.relational.specs.Represented.{dependency_of}
 use Rattle.relational.specs.Requests.{dependencies_of}
 use Rattle.relational.specs.declared.dependency.Dependency as stored_dependency
-use Rattle.relational.specs.declared.request.Dependencies.{Dependencies}
+use Rattle.relational.specs.declared.bounded.Bounded.{Bounded}
 use Rattle.relational.specs.declared.refusal.Refusal.{Refusal}
 use Rattle.relational.proofs.Members.{in_right, in_within, in_map_inv}
 use Rattle.redundancy.specs.Tgds.{is_tgd, OnlyTgds}
 use Rattle.redundancy.specs.Implied.{Implies, VariablesBelow}
-use Rattle.redundancy.specs.Implications.{unless_at, tgds_reading, tgds_fault, implication, Refuted}
+use Rattle.redundancy.specs.Implications.{tgds_reading, tgds_fault, implication, Refuted}
 use Rattle.redundancy.specs.Reduced.{Reduced, judged as all_judged, goes, remains}
-use Rattle.redundancy.specs.Reductions.{flags_of, next_flagged, reduction_from, tgds_reduced, reduction_answered, staying, ReductionMeans}
-use Rattle.redundancy.specs.declared.reduction.Reduction.{Reduction}
+use Rattle.redundancy.specs.Reductions.{next_flagged, reduction_from, staying, ReductionMeans}
 use Rattle.redundancy.proofs.Asking.{tgds_known, no_fault, implication_true, implication_false}
 use Rattle.redundancy.proofs.Judging.{body_small}
 use Rattle.redundancy.proofs.Reduced.{within_one_more, reduced_right}
@@ -98,26 +98,22 @@ flags_right c stay (d ∷ rest) flags j e =
     flags (implication c (stay ++ rest) d) refl (reduction_from c stay rest) (reduction_from c (stay ++ d ∷ []) rest) refl refl e
 
 -- WHAT IS ANSWERED
-pub reduction_answer : (rules : List ℕ) (c : ℕ) (ds : List Dependency) (fault : Option ℕ) → Ok ds ≡ tgds_reading rules → fault ≡ tgds_fault c ds →
-    unless_at 3 fault (reduction_from c [] ds) ≡ reduction_answered rules c
-reduction_answer rules c ds fault p e = ap (λ (o : Option ℕ). unless_at 3 o (reduction_from c [] ds)) e ∙ ap (tgds_reduced c) p
-
-pub reduction_refused : (rules : List ℕ) (r : Result Reduction Refusal) → is_err r ≡ true → ReductionMeans rules r
+pub reduction_refused : (rules : List ℕ) (r : Result (Bounded Bool 16) Refusal) → is_err r ≡ true → ReductionMeans rules r
 unfolding ReductionMeans
 reduction_refused rules (Ok r) e = absurd (false≢true e)
 reduction_refused rules (Err x) e = tt
 
-pub reduction_means : (rules : List ℕ) (c : ℕ) (tgds : Dependencies) (r : Result Reduction Refusal) → Ok (dependencies_of tgds) ≡ tgds_reading rules → None ≡ tgds_fault c (dependencies_of tgds) →
-    judged flags_of r ≡ reduction_from c [] (dependencies_of tgds) → ReductionMeans rules r
+pub reduction_means : (rules : List ℕ) (c : ℕ) (tgds : Bounded stored_dependency.Dependency 16) (r : Result (Bounded Bool 16) Refusal) → Ok (dependencies_of tgds) ≡ tgds_reading rules → None ≡ tgds_fault c (dependencies_of tgds) →
+    judged elements r ≡ reduction_from c [] (dependencies_of tgds) → ReductionMeans rules r
 unfolding ReductionMeans
 reduction_means rules c tgds (Err x) p n e = tt
 reduction_means rules c tgds (Ok r) p n e =
     let k = tgds_known rules (dependencies_of tgds) p in
-    let t = flags_right c [] (dependencies_of tgds) (flags_of r) (judgeable c (take tgds.count tgds.items) k.1 (no_fault c (dependencies_of tgds) n).1) (sym e) in
+    let t = flags_right c [] (dependencies_of tgds) (elements r) (judgeable c (take tgds.count tgds.items) k.1 (no_fault c (dependencies_of tgds) n).1) (sym e) in
     record {
       tgds = dependencies_of tgds;
       rules_read = k.0;
       each = t.1;
       reduced = t.0;
-      irredundant = reduced_right (dependencies_of tgds) (staying (flags_of r) (dependencies_of tgds)) t.0;
+      irredundant = reduced_right (dependencies_of tgds) (staying (elements r) (dependencies_of tgds)) t.0;
     }

@@ -1,53 +1,14 @@
 -- Dependencies that are judged one after the other: what is left without one of them, and the flags of those that stay.
-use Rattle.std.proofs.Common.{◌≡◌, ℕ, suc, ◌+◌, ◌-◌, ◌<◌, ◌≤◌, Bool, true, false, List, [], ◌∷◌, ◌++◌, map, length, get_or, take, drop, set, replicate, Ok, Err, Result, sym, refl, ap, ◌∙◌, subst, ap₂, arith}
-use borrow.Rule.Slice.PartMut.{put_mid}
+use Rattle.std.proofs.Common.{◌≡◌, ℕ, suc, ◌+◌, ◌<◌, ◌≤◌, Bool, true, false, List, [], ◌∷◌, ◌++◌, map, length, get_or, take, drop, Ok, Err, Result, sym, refl, ap, ◌∙◌, subst, arith}
 use Rattle.std.specs.List.{remove}
 use Rattle.std.proofs.lemmas.List.Edits.{length-remove}
-use Rattle.std.proofs.lemmas.List.{append_assoc, append-nil, length-append, length-take-le, length-drop, length-set, map-append, take-map, drop-map, take-take, drop-take, take-append-drop, take_at, drop_at, take_more, drop_more, drop_all, take_more_set, drop-set-lt}
-use Rattle.relational.specs.Instances.{In, Within, Dependency}
-use Rattle.relational.specs.Represented.{dependency_of}
-use Rattle.relational.specs.Requests.{dependencies_of}
-use Rattle.relational.specs.declared.request.Dependencies.{Dependencies}
-use Rattle.relational.proofs.Members.{in_at, in_right, in_take, in_within, within_refl, within_trans, within_append}
+use Rattle.std.proofs.lemmas.List.{append_assoc, append-nil, length-take-le, take_at, drop_at, take_more, drop_more, drop_all, get_or-map}
+use Rattle.relational.specs.Instances.{Within, Dependency}
+use Rattle.relational.proofs.Members.{in_at, in_within, within_refl, within_trans}
+use Rattle.redundancy.proofs.Cores.{removed_within}
 use Rattle.redundancy.specs.Tgds.{is_tgd, OnlyTgds}
 use Rattle.redundancy.specs.Implications.{implication}
 use Rattle.redundancy.specs.Reductions.{flagged, next_flagged, reduction_from}
-
--- the elements behind a place moved up by one
-module _ {A B : Type 0} (f : A → B) (xs : List A) (n at : ℕ) (inside : at < n) (room : n ≤ length xs) (last : List A)
-    (is : last ≡ take ((n - 1) + 1 - (at + 1)) (drop (at + 1) xs)) where
-  behind : last ≡ take (n - suc at) (drop (suc at) xs)
-  behind =
-      let k : (n - 1) + 1 - (at + 1) ≡ n - suc at = omega arith in
-      let j : at + 1 ≡ suc at = omega arith in
-      is ∙ ap₂ {C = List A} (λ (p q : ℕ). take p (drop q xs)) k j
-
-  length_behind : length last ≡ n - suc at
-  length_behind = ap length behind ∙ length-take-le (n - suc at) (drop (suc at) xs) (omega (arith, length-drop (suc at) xs))
-
-  pub moved_length : length (put_mid at ((n - 1) - at) xs last) ≡ length xs
-  moved_length =
-      let rest = drop ((n - 1) - at) (drop at xs) in
-      let a = length-append (take at xs) (last ++ rest) in
-      let b = length-append last rest in
-      let t = length-take-le at xs (omega arith) in
-      let d = length-drop ((n - 1) - at) (drop at xs) in
-      let e = length-drop at xs in
-      omega (arith, a, b, t, d, e, length_behind)
-
-  pub moved_up : map f (take (n - 1) (put_mid at ((n - 1) - at) xs last)) ≡ remove (map f (take n xs)) at
-  moved_up =
-      let rest = drop ((n - 1) - at) (drop at xs) in
-      let a = length-append (take at xs) last in
-      let t = length-take-le at xs (omega arith) in
-      let w : n ≡ suc at + (n - suc at) = omega arith in
-      let front : take at (map f (take n xs)) ≡ map f (take at xs) = take-map f at (take n xs) ∙ ap (map f) (take-take at n xs (omega arith)) in
-      let back : drop (suc at) (map f (take n xs)) ≡ map f last =
-      drop-map f (suc at) (take n xs) ∙ ap (map f) (ap (λ (k : ℕ). drop (suc at) (take k xs)) w ∙ drop-take (suc at) (n - suc at) xs ∙ sym behind) in
-      ap (λ (ys : List A). map f (take (n - 1) ys)) (sym (append_assoc (take at xs) last rest))
-      ∙ ap (map f) (take_at (take at xs ++ last) rest (n - 1) (omega (arith, a, t, length_behind)))
-      ∙ map-append f (take at xs) last
-      ∙ sym (ap₂ {C = List B} (λ (p q : List B). p ++ q) front back)
 
 -- THE LOOP
 -- flags in front of others
@@ -69,27 +30,18 @@ pub record JudgedSoFar (c : ℕ) (ds left : List Dependency) (at i : ℕ) (stays
   pub count : length left + i ≡ at + length ds
   pub rest : drop at left ≡ drop i ds
   pub within : Within left ds
-  pub full : length stays ≡ 16
-  pub unjudged : drop i stays ≡ replicate (16 - i) true
-  pub flags : flags_ahead (take i stays) (reduction_from c (take at left) (drop i ds)) ≡ reduction_from c [] ds
+  pub flags : flags_ahead stays (reduction_from c (take at left) (drop i ds)) ≡ reduction_from c [] ds
 
-pub judging_begins : (c : ℕ) (ds : List Dependency) → JudgedSoFar c ds ds 0 0 (replicate 16 true)
+pub judging_begins : (c : ℕ) (ds : List Dependency) → JudgedSoFar c ds ds 0 0 []
 judging_begins c ds = record {
   few = omega arith;
   count = omega arith;
   rest = refl;
   within = within_refl ds;
-  full = refl;
-  unjudged = refl;
   flags = flags_none (reduction_from c [] ds);
 }
 
--- what is left without one of them
-removed_within : {A : Type 0} (xs : List A) (i : ℕ) → Within (remove xs i) xs
-unfolding Within
-removed_within {A} xs i = within_append (take i xs) (drop (suc i) xs) xs (λ a k. in_take i xs k) (λ a k. subst (In a) (take-append-drop (suc i) xs) (in_right (take (suc i) xs) k))
-
-module _ (c : ℕ) (ds left : List Dependency) (at i : ℕ) (stays : List Bool) (h : JudgedSoFar c ds left at i stays) (inside : i < length ds) (most : length ds ≤ 16) (d asked : Dependency) (is : get_or ds i d ≡ asked) where
+module _ (c : ℕ) (ds left : List Dependency) (at i : ℕ) (stays : List Bool) (h : JudgedSoFar c ds left at i stays) (inside : i < length ds) (d asked : Dependency) (is : get_or ds i d ≡ asked) where
   rest_ahead : drop i ds ≡ asked ∷ drop (i + 1) ds
   rest_ahead = drop_more ds i d inside ∙ ap (λ (t : Dependency). t ∷ drop (i + 1) ds) is
 
@@ -108,72 +60,53 @@ module _ (c : ℕ) (ds left : List Dependency) (at i : ℕ) (stays : List Bool) 
   others_behind : drop (suc at) left ≡ drop (i + 1) ds
   others_behind = let s : suc at ≡ at + 1 = omega arith in ap (λ (k : ℕ). drop k left) s ∙ behind_it
 
-  this_flag : get_or stays i true ∷ drop (i + 1) stays ≡ true ∷ replicate (16 - (i + 1)) true
-  this_flag =
-      let s : 16 - i ≡ suc (16 - (i + 1)) = omega arith in
-      sym (drop_more stays i true (omega (arith, h.full))) ∙ h.unjudged ∙ ap (λ (k : ℕ). replicate k true) s
-
   next_flags : (r : Result Bool (ℕ × ℕ)) → r ≡ implication c (remove left at) asked →
-      flags_ahead (take i stays) (next_flagged r (reduction_from c (take at left) (drop (i + 1) ds)) (reduction_from c (take at left ++ asked ∷ []) (drop (i + 1) ds))) ≡ reduction_from c [] ds
+      flags_ahead stays (next_flagged r (reduction_from c (take at left) (drop (i + 1) ds)) (reduction_from c (take at left ++ asked ∷ []) (drop (i + 1) ds))) ≡ reduction_from c [] ds
   unfolding reduction_from
   next_flags r e =
-      ap (λ (q : Result Bool (ℕ × ℕ)). flags_ahead (take i stays) (next_flagged q (reduction_from c (take at left) (drop (i + 1) ds)) (reduction_from c (take at left ++ asked ∷ []) (drop (i + 1) ds))))
+      ap (λ (q : Result Bool (ℕ × ℕ)). flags_ahead stays (next_flagged q (reduction_from c (take at left) (drop (i + 1) ds)) (reduction_from c (take at left ++ asked ∷ []) (drop (i + 1) ds))))
       (e ∙ ap (λ (es : List Dependency). implication c (take at left ++ es) asked) others_behind)
-      ∙ ap (λ (es : List Dependency). flags_ahead (take i stays) (reduction_from c (take at left) es)) (sym rest_ahead)
+      ∙ ap (λ (es : List Dependency). flags_ahead stays (reduction_from c (take at left) es)) (sym rest_ahead)
       ∙ h.flags
 
-  pub one_goes : (others : List Dependency) → others ≡ remove left at → Ok true ≡ implication c (remove left at) asked → JudgedSoFar c ds others at (i + 1) (set stays i false)
+  pub one_goes : (others : List Dependency) → others ≡ remove left at → Ok true ≡ implication c (remove left at) asked → JudgedSoFar c ds others at (i + 1) (stays ++ false ∷ [])
   one_goes others w e =
       let n = length-remove left at at_inside in
       let t = length-take-le at left (omega (arith, at_inside)) in
-      let tail : drop (i + 1) stays ≡ replicate (16 - (i + 1)) true = cc this_flag in
       let front : take at others ≡ take at left = ap (take at) w ∙ take_at (take at left) (drop (suc at) left) at t in
       record {
         few = omega (arith, h.few);
         count = omega (arith, n, h.count, ap length w);
         rest = ap (drop at) w ∙ drop_at (take at left) (drop (suc at) left) at t ∙ others_behind;
         within = subst (λ (es : List Dependency). Within es ds) (sym w) (within_trans (remove left at) left ds (removed_within left at) h.within);
-        full = length-set stays i false ∙ h.full;
-        unjudged = drop-set-lt (i + 1) stays i false (omega arith) ∙ tail;
         flags =
-            ap₂ {C = Result (List Bool) (ℕ × ℕ)} (λ (fs : List Bool) (es : List Dependency). flags_ahead fs (reduction_from c es (drop (i + 1) ds))) (take_more_set stays i false (omega (arith, h.full))) front
-            ∙ flags_one_more (take i stays) false (reduction_from c (take at left) (drop (i + 1) ds))
+            ap (λ (es : List Dependency). flags_ahead (stays ++ false ∷ []) (reduction_from c es (drop (i + 1) ds))) front
+            ∙ flags_one_more stays false (reduction_from c (take at left) (drop (i + 1) ds))
             ∙ next_flags (Ok true) e;
       }
 
-  pub one_stays : Ok false ≡ implication c (remove left at) asked → JudgedSoFar c ds left (at + 1) (i + 1) stays
-  one_stays e =
-      let flag : get_or stays i true ≡ true = cc this_flag in
-      let tail : drop (i + 1) stays ≡ replicate (16 - (i + 1)) true = cc this_flag in
-      record {
-        few = omega (arith, h.few);
-        count = omega (arith, h.count);
-        rest = behind_it;
-        within = h.within;
-        full = h.full;
-        unjudged = tail;
-        flags =
-            ap₂ {C = Result (List Bool) (ℕ × ℕ)} (λ (fs : List Bool) (es : List Dependency). flags_ahead fs (reduction_from c es (drop (i + 1) ds)))
-            (take_more stays i true (omega (arith, h.full)) ∙ ap (λ (b : Bool). take i stays ++ b ∷ []) flag)
-            (take_more left at d at_inside ∙ ap (λ (t : Dependency). take at left ++ t ∷ []) its_place)
-            ∙ flags_one_more (take i stays) true (reduction_from c (take at left ++ asked ∷ []) (drop (i + 1) ds))
-            ∙ next_flags (Ok false) e;
-      }
+  pub one_stays : Ok false ≡ implication c (remove left at) asked → JudgedSoFar c ds left (at + 1) (i + 1) (stays ++ true ∷ [])
+  one_stays e = record {
+    few = omega (arith, h.few);
+    count = omega (arith, h.count);
+    rest = behind_it;
+    within = h.within;
+    flags =
+        ap (λ (es : List Dependency). flags_ahead (stays ++ true ∷ []) (reduction_from c es (drop (i + 1) ds)))
+        (take_more left at d at_inside ∙ ap (λ (t : Dependency). take at left ++ t ∷ []) its_place)
+        ∙ flags_one_more stays true (reduction_from c (take at left ++ asked ∷ []) (drop (i + 1) ds))
+        ∙ next_flags (Ok false) e;
+  }
 
   pub one_refused : (x : ℕ × ℕ) → Err x ≡ implication c (remove left at) asked → Err x ≡ reduction_from c [] ds
   one_refused x e = next_flags (Err x) e
 
-pub judging_ends : (c : ℕ) (ds left : List Dependency) (at i n : ℕ) (stays : List Bool) → JudgedSoFar c ds left at i stays → length ds ≤ i → n ≡ i → Ok (take n stays) ≡ reduction_from c [] ds
+pub judging_ends : (c : ℕ) (ds left : List Dependency) (at i : ℕ) (stays : List Bool) → JudgedSoFar c ds left at i stays → length ds ≤ i → Ok stays ≡ reduction_from c [] ds
 unfolding reduction_from
-judging_ends c ds left at i n stays h l e =
-    ap (λ (k : ℕ). Ok (take k stays)) e
-    ∙ ap {B = Result (List Bool) (ℕ × ℕ)} Ok (sym (append-nil (take i stays)))
-    ∙ ap (λ (es : List Dependency). flags_ahead (take i stays) (reduction_from c (take at left) es)) (sym (drop_all i ds l))
+judging_ends c ds left at i stays h l =
+    ap {B = Result (List Bool) (ℕ × ℕ)} Ok (sym (append-nil stays))
+    ∙ ap (λ (es : List Dependency). flags_ahead stays (reduction_from c (take at left) es)) (sym (drop_all i ds l))
     ∙ h.flags
-
--- the others, as they are handed on
-pub handed_on : (others : Dependencies) (left : List Dependency) (at k : ℕ) → k ≡ others.count → dependencies_of others ≡ remove left at → map dependency_of (take k others.items) ≡ remove left at
-handed_on others left at k e h = ap (λ (n : ℕ). map dependency_of (take n others.items)) e ∙ h
 
 -- they are tgds, as all are
 only_within : (es ds : List Dependency) → Within es ds → OnlyTgds ds → OnlyTgds es
@@ -186,3 +119,7 @@ others_tgds c ds left at i stays es h o e = subst OnlyTgds (sym e) (only_within 
 pub tgd_at : (ds : List Dependency) (i : ℕ) (d asked : Dependency) → OnlyTgds ds → i < length ds → get_or ds i d ≡ asked → is_tgd asked ≡ true
 unfolding OnlyTgds
 tgd_at ds i d asked o l e = subst (λ (t : Dependency). is_tgd t ≡ true) e (o (get_or ds i d) (in_at ds i d l))
+
+-- AS THEY LIE IN MEMORY
+pub item_at : {A B : Type 0} (f : A → B) (xs : List A) (i : ℕ) (x : A) → i < length xs → x ≡ get_or xs i x → get_or (map f xs) i (f x) ≡ f x
+item_at f xs i x l e = get_or-map f xs i x (f x) l ∙ ap f (sym e)

@@ -1,9 +1,7 @@
 -- Sparing facts block by block gives the same as asking for a homomorphism of the whole instance.
-use Rattle.std.proofs.Common.{◌≡◌, ℕ, zero, suc, ◌-◌, ◌<◌, ◌≤◌, Bool, true, false, cond, ◌⊎◌, List, [], ◌++◌, map, length, get_or, take, drop, Decides, sym, refl, ap, ◌∙◌, subst, ap₂, inl, inr, add-one, arith}
-use borrow.Rule.Slice.PartMut.{put_mid}
+use Rattle.std.proofs.Common.{◌≡◌, ℕ, zero, suc, ◌-◌, ◌<◌, Bool, true, false, cond, ◌⊎◌, List, [], ◌++◌, map, length, get_or, take, drop, Decides, sym, refl, ap, ◌∙◌, subst, ap₂, inl, inr, arith}
 use Rattle.std.specs.List.{remove}
-use Rattle.std.proofs.lemmas.List.{append_assoc, map-append, take-map, drop-map, take-take, take_at, drop-drop, length-take-le, length-take, length-drop, length-append, take-append-drop}
-use Rattle.std.proofs.lemmas.Slice.{between_is}
+use Rattle.std.proofs.lemmas.List.{map-append, take-map, drop-map, take-append-drop}
 use Rattle.std.proofs.lemmas.Bool.{cases_eq}
 use Rattle.std.proofs.lemmas.Bool.Decides.{same_from_decides, Decides-like}
 use Rattle.relational.specs.Instances.{In, Within, Fact, Instance}
@@ -153,42 +151,20 @@ unfolding Places
 block_places c facts place order count n b e = λ i h. subst (λ (z : ℕ). i < z) e (place_at (length facts) order b.places i (in_take count order h))
 
 -- IN MEMORY
-removed_map : {A B : Type 0} (f : A → B) (xs : List A) (i : ℕ) → map f (remove xs i) ≡ remove (map f xs) i
+pub removed_map : {A B : Type 0} (f : A → B) (xs : List A) (i : ℕ) → map f (remove xs i) ≡ remove (map f xs) i
 removed_map {A} {B} f xs i = map-append f (take i xs) (drop (suc i) xs) ∙ ap₂ {C = List B} (λ (ys zs : List B). ys ++ zs) (sym (take-map f i xs)) (sym (drop-map f (suc i) xs))
 
--- a fact that went behind the others is removed from among them
-shifted : {A : Type 0} (xs : List A) (i count : ℕ) (last : List A) → i < count → count ≤ length xs → last ≡ drop 1 (take (count - i) (drop i xs)) ++ take 1 (take (count - i) (drop i xs)) →
-    take (count - 1) (put_mid i (count - i) xs last) ≡ remove (take count xs) i
-shifted {A} xs i count last l m e =
-    let part = take (count - i) (drop i xs) in
-    let post = drop (count - i) (drop i xs) in
-    let long : length (take i xs ++ drop 1 part) ≡ count - 1 =
-    omega (arith, length-append (take i xs) (drop 1 part), length-take-le i xs (omega arith), length-drop 1 part, length-take (count - i) (drop i xs), length-drop i xs) in
-    ap (λ (ys : List A). take (count - 1) (take i xs ++ (ys ++ post))) e
-    ∙ ap (λ (ys : List A). take (count - 1) (take i xs ++ ys)) (append_assoc (drop 1 part) (take 1 part) post)
-    ∙ ap (take (count - 1)) (sym (append_assoc (take i xs) (drop 1 part) (take 1 part ++ post)))
-    ∙ take_at (take i xs ++ drop 1 part) (take 1 part ++ post) (count - 1) long
-    ∙ ap₂ {C = List A} (λ (ys zs : List A). ys ++ zs) (sym (take-take i count xs (omega arith))) (ap (drop 1) (between_is xs i count) ∙ drop-drop 1 i (take count xs) ∙ ap (λ (j : ℕ). drop j (take count xs)) (add-one i))
+-- one step, at the place before i
+module _ (c : ℕ) (u : Instance) (facts seen : List code.Fact) (i : ℕ) (l : 0 < i) (is : seen ≡ facts) (s : Sparing c u i (map fact_of facts)) (r : Bool)
+    (d : Decides r (Homomorphism c (map fact_of seen) (remove (map fact_of seen) (i - 1)))) where
+  before : Sparing c u (suc (i - 1)) (map fact_of facts)
+  before = let e : i ≡ suc (i - 1) = omega arith in subst (λ (k : ℕ). Sparing c u k (map fact_of facts)) e s
 
-pub length_put : {A : Type 0} (xs last : List A) (i count : ℕ) → i ≤ count → count ≤ length xs → length last ≡ length (take (count - i) (drop i xs)) → length (put_mid i (count - i) xs last) ≡ length xs
-length_put xs last i count l m e =
-    let post = drop (count - i) (drop i xs) in
-    omega (arith, length-append (take i xs) (last ++ post), length-append last post, length-take-le i xs (omega arith), length-take (count - i) (drop i xs), length-drop (count - i) (drop i xs), length-drop i xs)
+  answer : Decides r (Homomorphism c (map fact_of facts) (remove (map fact_of facts) (i - 1)))
+  answer = subst (λ (gs : List code.Fact). Decides r (Homomorphism c (map fact_of gs) (remove (map fact_of gs) (i - 1)))) is d
 
--- one step, with the facts as they lie in memory
-module _ (c : ℕ) (u : Instance) (facts : List code.Fact) (count i : ℕ) (l : 0 < i) (s : Sparing c u i (map fact_of (take count facts))) (r : Bool)
-    (d : Decides r (Homomorphism c (map fact_of (take (count - 0) facts)) (remove (map fact_of (take (count - 0) facts)) (i - 1)))) where
-  before : Sparing c u (suc (i - 1)) (map fact_of (take count facts))
-  before = let e : i ≡ suc (i - 1) = omega arith in subst (λ (k : ℕ). Sparing c u k (map fact_of (take count facts))) e s
+  pub one_stays : r ≡ false → Sparing c u (i - 1) (map fact_of facts)
+  one_stays e = sparing_left c u (i - 1) (map fact_of facts) before r answer e
 
-  answer : Decides r (Homomorphism c (map fact_of (take count facts)) (remove (map fact_of (take count facts)) (i - 1)))
-  answer = let e : count - 0 ≡ count = omega arith in subst (λ (k : ℕ). Decides r (Homomorphism c (map fact_of (take k facts)) (remove (map fact_of (take k facts)) (i - 1)))) e d
-
-  pub stays : r ≡ false → Sparing c u (i - 1) (map fact_of (take count facts))
-  stays e = sparing_left c u (i - 1) (map fact_of (take count facts)) before r answer e
-
-  pub taken_out : r ≡ true → i ≤ count → count ≤ length facts → (last : List code.Fact) → last ≡ drop 1 (take (count - (i - 1)) (drop (i - 1) facts)) ++ take 1 (take (count - (i - 1)) (drop (i - 1) facts)) →
-      Sparing c u (i - 1) (map fact_of (take (count - 1) (put_mid (i - 1) (count - (i - 1)) facts last)))
-  taken_out e m n last p =
-      subst (Sparing c u (i - 1)) (sym (ap (map fact_of) (shifted facts (i - 1) count last (omega arith) n p) ∙ removed_map fact_of (take count facts) (i - 1)))
-      (sparing_taken c u (i - 1) (map fact_of (take count facts)) before r answer e)
+  pub one_goes : r ≡ true → (left : List code.Fact) → left ≡ remove facts (i - 1) → Sparing c u (i - 1) (map fact_of left)
+  one_goes e left p = subst (Sparing c u (i - 1)) (sym (ap (map fact_of) p ∙ removed_map fact_of facts (i - 1))) (sparing_taken c u (i - 1) (map fact_of facts) before r answer e)

@@ -1,6 +1,6 @@
 -- What is answered for the core of a row's instance, and what stands in the row then.
-use Rattle.std.proofs.Common.{◌≡◌, ℕ, ◌-◌, ◌^◌, ◌<◌, ◌≤◌, List, ◌++◌, map, length, take, Ok, Err, Result, sym, refl, ap, ◌∙◌, subst, arith}
-use Rattle.std.proofs.lemmas.List.{length-take-le, take-append-le}
+use Rattle.std.proofs.Common.{◌≡◌, ℕ, ◌^◌, ◌<◌, ◌≤◌, List, map, length, Ok, Err, Result, sym, refl, ap, ◌∙◌, subst, arith}
+use Rattle.std.proofs.lemmas.List.{length-take-le}
 use Rattle.std.proofs.lemmas.Bool.{lt-ltb, le-ltb, le-leb, lt-leb}
 use Rattle.relational.specs.declared.fact.Fact as code
 use Rattle.relational.specs.declared.refusal.Refusal.{Refusal}
@@ -22,7 +22,7 @@ unfolding ShortAll
 stored_short facts f i =
     let t = in_map_inv fact_of facts i in
     let g : code.Fact = t.0 in
-    omega (arith, ap (λ (z : Fact). length z.values) t.2, length-take-le g.count g.values (omega arith), g.few)
+    omega (arith, ap (λ (z : Fact). length z.values) t.2, length-take-le g.values.count g.values.items (omega (arith, g.values.few, g.values.full)), g.values.few)
 
 -- WHAT IS REFUSED
 pub refused_says : (c : ℕ) (reading : Result Instance (ℕ × ℕ)) (e : Refusal) (row : List ℕ) → reading ≡ Err (said e) → CoreSays c reading (Err e) row row
@@ -70,15 +70,6 @@ module _ (c : ℕ) (reading : Result Instance (ℕ × ℕ)) (facts : Instance) (
       let r = core_right c facts in
       (facts, h, count ∙ ap length (is ∙ sym reads), subst (Core c facts) (sym reads) r.0, subst Distinct (sym reads) r.1, subst (UniversalToo c facts) (sym reads) (universal_too c facts))
 
--- the distinct facts, thinned where they lie, are the core
-pub core_left : (c : ℕ) (facts : Instance) (read thin rest : List code.Fact) (k n : ℕ) → map fact_of (take k read) ≡ distinct facts → length (take (k - 0) read) ≡ length thin → n ≤ length (take (k - 0) read) →
-    map fact_of (take n thin) ≡ thinned c (map fact_of (take (k - 0) read)) (length (map fact_of (take (k - 0) read))) (map fact_of (take (k - 0) read)) → map fact_of (take (n - 0) (thin ++ rest)) ≡ core c facts
-core_left c facts read thin rest k n d m l t =
-    let e : k - 0 ≡ k = omega arith in
-    let z : n - 0 ≡ n = omega arith in
-    let own : map fact_of (take (k - 0) read) ≡ distinct facts = ap (λ (j : ℕ). map fact_of (take j read)) e ∙ d in
-    ap (λ (j : ℕ). map fact_of (take j (thin ++ rest))) z
-    ∙ ap (map fact_of) (take-append-le n thin rest (omega (arith, m, l)))
-    ∙ t
-    ∙ ap (λ (gs : Instance). thinned c gs (length gs) gs) own
-    ∙ sym (thinned_distinct c facts (length (distinct facts)) (distinct facts))
+-- the distinct facts, thinned, are the core
+pub core_left : (c : ℕ) (facts read left : Instance) → read ≡ distinct facts → left ≡ thinned c read (length read) read → left ≡ core c facts
+core_left c facts read left d t = t ∙ ap (λ (gs : Instance). thinned c gs (length gs) gs) d ∙ sym (thinned_distinct c facts (length (distinct facts)) (distinct facts))

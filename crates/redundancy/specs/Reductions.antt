@@ -1,17 +1,14 @@
 -- Which of a list of tgds stay when those go that the others imply: step by step, and what that means. The numbers below c are constants. Refusals, the first that
 -- applies: 2: the rules are malformed, or the first of them that is an egd. 3: c is above 2^32, at 80; or a constant that is not below c, at 64 and the place of the
 -- rule. 5: a chase was given up after 128 steps, at 128.
-use Rattle.std.specs.Prelude.{◌≡◌, ℕ, Bool, true, false, List, [], ◌∷◌, ◌++◌, length, take, Ok, Err, Result}
+use Rattle.std.specs.Prelude.{◌≡◌, ℕ, Bool, true, false, List, [], ◌∷◌, ◌++◌, length, Ok, Err, Result}
 use Rattle.relational.specs.Instances.{Dependency}
 use Rattle.relational.specs.Readings.{dependencies_reading}
+use Rattle.relational.specs.declared.bounded.Bounded.{Bounded}
 use Rattle.relational.specs.declared.refusal.Refusal.{Refusal}
+use Rattle.relational.specs.Elements.{elements}
 use Rattle.redundancy.specs.Implications.{unless_at, tgds_reading, tgds_fault, implication}
 use Rattle.redundancy.specs.Reduced.{Reduced, Irredundant}
-use Rattle.redundancy.specs.declared.reduction.Reduction.{Reduction}
-
--- for each tgd whether it stays
-abbrev pub flags_of : Reduction → List Bool
-flags_of r = take r.count r.stays
 
 -- one more flag in front
 abbrev pub flagged : Bool → Result (List Bool) (ℕ × ℕ) → Result (List Bool) (ℕ × ℕ)
@@ -55,6 +52,6 @@ pub record Reduces (rules : List ℕ) (flags : List Bool) : Type 0 where
   pub irredundant : Irredundant tgds (staying flags tgds)
 
 -- what an answer means
-unfoldable pub ReductionMeans : List ℕ → Result Reduction Refusal → Type 0
-ReductionMeans rules (Ok r) = Reduces rules (flags_of r)
+unfoldable pub ReductionMeans : List ℕ → Result (Bounded Bool 16) Refusal → Type 0
+ReductionMeans rules (Ok r) = Reduces rules (elements r)
 ReductionMeans rules (Err e) = Unit {0}

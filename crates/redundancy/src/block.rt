@@ -5,25 +5,23 @@ ghost use Rattle.relational.specs.Represented.{fact_of};
 
 use relational::Fact;
 
-// Whether no null stands in both facts.
+// Whether no null stands among both values.
 fn are_apart(left: &Fact, right: &Fact, c: u64) -> bool
     ensures { Decides result (NoSharedNull c (fact_of left.now) (fact_of right.now)) }
 {
-    for i in 0..left.count {
-        let value = left.values[i];
-        if value >= c && right.values[0..right.count].contains(&value) {
-            return false;
-        }
-    }
-    true
+    let others = right.values.as_slice();
+    left.values
+        .as_slice()
+        .iter()
+        .all(|value| *value < c || !others.contains(value))
 }
 
 // Writes each place at its own position.
 fn number_places(order: &mut [usize])
     ensures { (p : ℕ) → p < length order.new → slice_index order.new p ≡ p }
 {
-    for i in 0..order.len() {
-        order[i] = i;
+    for (i, place) in order.iter_mut().enumerate() {
+        *place = i;
     }
 }
 
@@ -35,6 +33,7 @@ fn gather(facts: &[Fact], order: &mut [usize], k: usize, count: usize, c: u64) -
     ensures more { count ≤ result }
 {
     let mut end = count;
+    // By index: the places are exchanged while they are gone over.
     for i in count..order.len() {
         if !are_apart(&facts[order[i]], &facts[order[k]], c) {
             order.swap(i, end);
@@ -53,6 +52,7 @@ pub fn order_block(facts: &[Fact], place: usize, order: &mut [usize], c: u64) ->
     order.swap(0, place);
     let mut count = 1;
     let mut k = 0;
+    // A `while`: the block grows while it is gone over.
     while k < count {
         count = gather(facts, order, k, count, c);
         k += 1;

@@ -5,7 +5,7 @@ ghost use Rattle.relational.specs.Represented.{fact_of};
 ghost use Rattle.relational.specs.Rows.{replaced};
 
 use crate::distinct::read_distinct;
-use crate::spare::{FACTS_ROOM, thin};
+use crate::spare::thin;
 use relational::{FIRST_NULL_MAX, Fact, INSTANCE_FACTS_MAX, INSTANCE_LEN, Refusal, check_facts};
 
 // Writes the facts as an instance, with 0 in room that is not used; how many there are.
@@ -15,9 +15,8 @@ fn publish(facts: &[Fact], out: &mut [u64]) -> u64
     ensures after { out.new ≡ replaced out.old (map fact_of facts.now) }
 {
     out[0] = 0;
-    for i in 0..facts.len() {
-        let rest = &mut out[6 * i + 1..];
-        facts[i].write(rest);
+    for (i, fact) in facts.iter().enumerate() {
+        fact.write(&mut out[6 * i + 1..]);
     }
     let count = facts.len() as u64;
     out[0] = count;
@@ -39,13 +38,7 @@ pub fn core_of(instance: &[u64], out: &mut [u64], c: u64) -> Result<u64, Refusal
             len: out.len() as u64,
         });
     };
-    let unused = Fact {
-        relation: 0,
-        count: 0,
-        values: [0; 4],
-    };
-    let mut left = [unused; FACTS_ROOM];
-    let count = read_distinct(instance, facts.count, &mut left);
-    let count = thin(&mut left[0..count], c);
-    Ok(publish(&left[0..count], out))
+    let mut left = read_distinct(instance, facts.count);
+    thin(&mut left, c);
+    Ok(publish(left.as_slice(), out))
 }

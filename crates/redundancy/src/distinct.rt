@@ -1,48 +1,49 @@
 // Facts by value, each once.
-ghost use Rattle.std.specs.Prelude.{◌≡◌, ◌+◌, ◌*◌, ◌≤◌, map, length, take, Ok};
+ghost use Rattle.std.specs.Prelude.{◌≡◌, ◌+◌, ◌*◌, ◌≤◌, map, length, Ok};
 ghost use Rattle.redundancy.specs.Cores.{distinct as distinct_facts, same_fact};
+ghost use Rattle.relational.specs.Elements.{elements};
 ghost use Rattle.relational.specs.Layout.{facts_in};
 ghost use Rattle.relational.specs.Readings.{facts_reading};
 ghost use Rattle.relational.specs.Represented.{fact_of};
 ghost use Rattle.relational.specs.Tests.{any};
 
-use relational::Fact;
+use relational::{Bounded, Fact, INSTANCE_FACTS_MAX};
+
+// How many facts an instance has at most.
+pub const FACTS_ROOM: usize = INSTANCE_FACTS_MAX as usize;
 
 fn is_same(left: &Fact, right: &Fact) -> bool
     ensures { result ≡ same_fact (fact_of left.now) (fact_of right.now) }
 {
-    left.relation == right.relation && left.values[0..left.count] == right.values[0..right.count]
+    left.relation == right.relation && left.values.as_slice() == right.values.as_slice()
 }
 
 // Whether the fact is one of the facts.
 fn stands(facts: &[Fact], fact: &Fact) -> bool
     ensures { result ≡ any (same_fact (fact_of fact.now)) (map fact_of facts.now) }
 {
-    for other in facts {
-        if is_same(fact, other) {
-            return true;
-        }
-    }
-    false
+    facts.iter().any(|other| is_same(fact, other))
 }
 
-// Writes the facts of a checked row, each once, at its first coming; how many there are.
-pub fn read_distinct(row: &[u64], count: usize, facts: &mut [Fact]) -> usize
+// The facts of a checked row, each once, at its first coming.
+pub fn read_distinct(row: &[u64], count: usize) -> Bounded<Fact, FACTS_ROOM>
     requires read { facts_reading 320 row.now ≡ Ok (facts_in row.now count) }
     requires there { 6 * count + 1 ≤ length row.now }
-    requires room { count ≤ length facts.old }
-    ensures value { map fact_of (take result facts.new) ≡ distinct_facts (facts_in row.now count) }
-    ensures few { result ≤ count }
+    requires room { count ≤ 320 }
+    ensures { map fact_of (elements result) ≡ distinct_facts (facts_in row.now count) }
 {
-    let mut used = 0;
+    let mut facts = Bounded::new(Fact {
+        relation: 0,
+        values: Bounded::new(0),
+    });
+    // By number: the place of a fact in the row follows from it.
     for i in 0..count {
         let Some(fact) = Fact::read(&row[6 * i + 1..]) else {
             unreachable()
         };
-        if !stands(&facts[0..used], &fact) {
-            facts[used] = fact;
-            used += 1;
+        if !stands(facts.as_slice(), &fact) {
+            facts.push(fact);
         }
     }
-    used
+    facts
 }

@@ -6,11 +6,9 @@ mod core_row;
 mod distinct;
 mod freeze;
 mod homomorphism;
-mod implication;
 mod judge;
 mod laws;
 mod mapping;
-mod reduction;
 mod redundant;
 mod rules;
 mod spare;
@@ -18,7 +16,6 @@ mod stages;
 mod two_stages;
 
 pub use core_row::core_of;
-pub use implication::Implication;
 pub use judge::implied;
 pub use laws::{
     apart_tested, core_right, core_universal, cores_universal, homomorphism_tested,
@@ -26,6 +23,5 @@ pub use laws::{
     only_tgds_tested, reduced_right, small_examples, tgds_never_fail, tgds_only_add,
     two_stages_in_every_order, two_stages_right, two_stages_where_it_ends, universal_carried,
 };
-pub use reduction::Reduction;
 pub use redundant::reduce;
 pub use two_stages::move_in_two;

@@ -6,7 +6,7 @@ ghost use Rattle.relational.specs.Represented.{dependency_of};
 ghost use Rattle.relational.specs.Requests.{dependencies_of};
 ghost use Rattle.relational.specs.Tests.{first_failing};
 ghost use Rattle.std.specs.Option.{option_map};
-ghost use Rattle.std.specs.Prelude.{◌≡◌};
+ghost use Rattle.std.specs.Prelude.{◌≡◌, map};
 
 use relational::{Dependencies, Dependency, Facts, Refusal, constants_fault, read_dependencies};
 
@@ -14,22 +14,17 @@ use relational::{Dependencies, Dependency, Facts, Refusal, constants_fault, read
 fn is_tgd(dependency: &Dependency) -> bool
     ensures { result ≡ is_tgd (dependency_of dependency.now) }
 {
-    match dependency {
-        Dependency::Tgd { .. } => true,
-        Dependency::Egd { .. } => false,
-    }
+    matches!(dependency, Dependency::Tgd { .. })
 }
 
 // The place of the first egd.
-fn first_egd(dependencies: &Dependencies) -> Option<u64>
-    ensures { result ≡ first_failing is_tgd (dependencies_of dependencies.now) 0 }
+fn first_egd(dependencies: &[Dependency]) -> Option<u64>
+    ensures { result ≡ first_failing is_tgd (map dependency_of dependencies.now) 0 }
 {
-    for i in 0..dependencies.count {
-        if !is_tgd(&dependencies.items[i]) {
-            return Some(i as u64);
-        }
-    }
-    None
+    dependencies
+        .iter()
+        .position(|dependency| !is_tgd(dependency))
+        .map(|at| at as u64)
 }
 
 // The tgds of a row, decoded; the first egd is refused at its place.
@@ -37,7 +32,7 @@ pub fn read_tgds(rules: &[u64]) -> Result<Dependencies, Refusal>
     ensures { judged dependencies_of result ≡ tgds_reading rules.now }
 {
     let dependencies = read_dependencies(rules)?;
-    match first_egd(&dependencies) {
+    match first_egd(dependencies.as_slice()) {
         Some(at) => Err(Refusal::Dependencies { at }),
         None => Ok(dependencies),
     }
@@ -47,14 +42,7 @@ pub fn read_tgds(rules: &[u64]) -> Result<Dependencies, Refusal>
 pub fn read_tgd(numbers: &[u64]) -> Option<Dependency>
     ensures { option_map dependency_of result ≡ tgd_read numbers.now }
 {
-    let Some(dependency) = Dependency::read(numbers) else {
-        return None;
-    };
-    if is_tgd(&dependency) {
-        Some(dependency)
-    } else {
-        None
-    }
+    Dependency::read(numbers).filter(is_tgd)
 }
 
 // The place of the first tgd with a constant that is not below c, counted behind 64; c itself is looked at first.

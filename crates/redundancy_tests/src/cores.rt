@@ -41,12 +41,7 @@ fn written(facts: &[(u64, u64)]) -> Row {
 }
 
 fn same(left: &Row, right: &Row) -> bool {
-    for i in 0..1930 {
-        if left[i] != right[i] {
-            return false;
-        }
-    }
-    true
+    left == right
 }
 
 // Whether the core of the first facts are the second.

@@ -1,5 +1,5 @@
 // Whether small tgds follow from others, and which of them stay.
-use redundancy::{Implication, implied, reduce};
+use redundancy::{implied, reduce};
 use relational::Refusal;
 
 const C: u64 = 100;
@@ -75,33 +75,23 @@ fn list(count: u64, a: Rule, b: Rule, c: Rule) -> Rules {
 
 // Whether the tgd is implied; none where that is refused.
 fn follows(rules: &[u64], rule: &[u64]) -> Option<bool> {
-    match implied(rules, rule, C) {
-        Implication::Implied => Some(true),
-        Implication::NotImplied => Some(false),
-        Implication::Refused(_) => None,
-    }
+    implied(rules, rule, C).ok()
 }
 
 fn refusal(rules: &[u64], rule: &[u64], c: u64) -> Option<Refusal> {
-    match implied(rules, rule, c) {
-        Implication::Refused(refusal) => Some(refusal),
-        _ => None,
-    }
+    implied(rules, rule, c).err()
 }
 
 // Which of three stay.
 fn staying(rules: &[u64]) -> Option<[bool; 3]> {
-    match reduce(rules, C) {
-        Ok(reduction) => Some([reduction.stays[0], reduction.stays[1], reduction.stays[2]]),
-        Err(_) => None,
-    }
+    let [a, b, c] = *reduce(rules, C).ok()?.as_slice() else {
+        return None;
+    };
+    Some([a, b, c])
 }
 
 fn reduce_refusal(rules: &[u64], c: u64) -> Option<Refusal> {
-    match reduce(rules, c) {
-        Ok(_) => None,
-        Err(refusal) => Some(refusal),
-    }
+    reduce(rules, c).err()
 }
 
 #[test]

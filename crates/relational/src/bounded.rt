@@ -1,5 +1,5 @@
 // Up to so many elements, in fixed memory.
-ghost use Rattle.std.specs.Prelude.{◌≡◌, ◌≤◌, ◌<◌, ◌+◌, ◌++◌, [], ◌∷◌, length, replicate, take, ⊤};
+ghost use Rattle.std.specs.Prelude.{◌≡◌, ◌≤◌, ◌<◌, ◌+◌, ◌++◌, [], ◌∷◌, length, replicate, take, min, ⊤};
 
 use std::alloc::AllocError;
 
@@ -65,5 +65,13 @@ impl<T: Copy, const N: usize> Bounded<T, N> {
         let items = &mut self.items[..];
         items[at..self.count].rotate_left(1);
         self.count -= 1;
+    }
+
+    // Keeps the first `len` elements, or all where there are no more.
+    pub fn truncate(&mut self, len: usize)
+        ensures elements { elements self.new ≡ take len (elements self.old) }
+        ensures count { self.new.count ≡ min len self.old.count }
+    {
+        self.count = self.count.min(len);
     }
 }

@@ -4,28 +4,9 @@ use Rattle.relational.specs.Instances.{Fact}
 use Rattle.relational.specs.Represented.{fact_of}
 use Rattle.redundancy.specs.Blocks.{NoSharedNull}
 use Rattle.redundancy.proofs.Extended.{stored_at}
-use Rattle.redundancy.proofs.Blocked.{fact_at, scan_begin, scan_past, scan_swap, scan_end}
+use Rattle.redundancy.proofs.Blocked.{fact_at, scan_past, scan_swap}
 use Rattle.redundancy.proofs.block.gather.Goals as goal
 use Rattle.redundancy.proofs.block.gather.Goals.{then-not-are_apart, else-not-are_apart}
-
-pub loop-i-init : goal.loop-i-init
-loop-i-init c = (scan_begin _ _ _ _ _ _ c.requires.arranged c.requires.within, omega arith)
-
-pub offset_bounds-facts-order : goal.offset_bounds-facts-order
-offset_bounds-facts-order c = omega (arith, c.loop-i.invariant.0.arranged.places c.loop-i.i (omega arith), length-map c.args.facts.now fact_of)
-
-pub bounds-facts-order : goal.bounds-facts-order
-bounds-facts-order c = omega (arith, c.loop-i.invariant.0.arranged.places c.loop-i.i (omega arith), length-map c.args.facts.now fact_of)
-
-pub offset_bounds-facts-order-in-loop-i : goal.offset_bounds-facts-order-in-loop-i
-offset_bounds-facts-order-in-loop-i c =
-    let s = c.loop-i.invariant.0 in
-    omega (arith, s.arranged.places c.args.k (omega (arith, s.looking, s.arranged.few)), length-map c.args.facts.now fact_of)
-
-pub bounds-facts-order-in-loop-i : goal.bounds-facts-order-in-loop-i
-bounds-facts-order-in-loop-i c =
-    let s = c.loop-i.invariant.0 in
-    omega (arith, s.arranged.places c.args.k (omega (arith, s.looking, s.arranged.few)), length-map c.args.facts.now fact_of)
 
 pub loop-i-preserved : goal.loop-i-preserved
 loop-i-preserved c =
@@ -48,6 +29,3 @@ loop-i-preserved c =
             c.loop-i.invariant.1,
           )
     ]
-
-pub returns : goal.returns
-returns c = record { arranged = scan_end _ _ _ _ _ _ _ c.loop-i.invariant.0 (omega arith); more = c.loop-i.invariant.1 }

@@ -1,5 +1,6 @@
-use Rattle.std.proofs.Common.{◌-◌, length, drop, sym, arith, ltb-false, ltb-true}
-use Rattle.std.proofs.lemmas.List.{length-append, length-take, length-drop}
+use Rattle.std.proofs.Common.{map, length, ap, ◌∙◌, arith, ltb-false, ltb-true}
+use Rattle.relational.specs.Elements.{elements}
+use Rattle.relational.specs.Represented.{fact_of}
 use Rattle.std.proofs.lemmas.Result.{err_from_is_err_and}
 use Rattle.relational.specs.Layout.{facts_in}
 use Rattle.redundancy.proofs.Written.{stored_short, refused_says, refused_means, reading_none, reading_null, reading_room, reading_ok, core_says, core_means, core_left}
@@ -28,19 +29,13 @@ returns-in_default-len c =
       means = refused_means c.args.c _ _ c.args.out.now;
     }
 
-pub slice_bounds-publish-end : goal.slice_bounds-publish-end
-slice_bounds-publish-end c =
-    let read = c.read_distinct-count.new.facts in
-    let count = c.read_distinct-count.result in
-    omega (arith, length-append c.thin-count.new.facts (drop (count - 0) read), length-take (count - 0) read, length-drop (count - 0) read, c.thin-count.ensures.few, c.thin-count.auto.facts)
-
 pub returns : goal.returns
 returns c =
     let facts = facts_in c.args.instance.now c.in_ok-facts.facts.count in
     let reading = reading_ok c.args.instance.now (length c.args.out.now) c.args.c facts c.in_ok-facts.ensures.reading (omega (arith, ltb-true, ltb-false)) (omega (arith, ltb-false)) in
-    let read = c.read_distinct-count.new.facts in
-    let count = c.read_distinct-count.result in
-    let is = core_left c.args.c facts read c.thin-count.new.facts (drop (count - 0) read) count c.thin-count.result c.read_distinct-count.ensures.value (sym c.thin-count.auto.facts) c.thin-count.ensures.few c.thin-count.ensures.value in
+    let is =
+    ap (map fact_of) c.as_slice.ensures
+    ∙ core_left c.args.c facts (map fact_of (elements c.read_distinct-left.result)) (map fact_of (elements c.thin.new.facts)) c.read_distinct-left.ensures c.thin.ensures in
     record {
       says = core_says c.args.c _ facts reading _ is (stored_short _) c.publish.result c.publish.ensures.count c.args.out.now _ c.publish.ensures.after;
       means = core_means c.args.c _ facts reading _ is (stored_short _) c.publish.result c.publish.ensures.count c.args.out.now _ c.publish.ensures.after;

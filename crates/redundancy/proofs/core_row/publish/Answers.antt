@@ -3,7 +3,7 @@ use Rattle.std.proofs.lemmas.List.{length-set, length-map}
 use Rattle.relational.specs.Instances.{Fact}
 use Rattle.relational.specs.Layout.{fact_row}
 use Rattle.relational.specs.Represented.{fact_of}
-use Rattle.chase.proofs.Loading.{loads_begin, fact_loaded, loads_end}
+use Rattle.chase.proofs.Loading.{loads_begin, fact_loaded}
 use Rattle.redundancy.specs.Mappings.{no_fact}
 use Rattle.redundancy.proofs.Extended.{stored_at}
 use Rattle.redundancy.proofs.Written.{stored_short}
@@ -21,11 +21,3 @@ loop-i-preserved c =
     fact_loaded (map fact_of facts) before c.loop-i.out c.loop-i.i k no_fact c.write.new.row (stored_short facts) (omega (arith, length-map facts fact_of))
     (omega (arith, length-set c.args.out.now 0 0)) c.loop-i.invariant (omega arith)
     (c.write.ensures.after ∙ ap (λ (f : Fact). cond (leb 6 (length part)) (fact_row f ++ drop 6 part) part) (sym (stored_at facts c.loop-i.i _ (omega arith) c.index-facts-i.is)))
-
-pub returns : goal.returns
-returns c =
-    let n = length-map c.args.facts.now fact_of in
-    record {
-      count = sym n;
-      after = loads_end c.args.out.now c.loop-i.out (map fact_of c.args.facts.now) c.loop-i.i _ (omega (arith, n)) (omega arith) c.loop-i.invariant;
-    }

@@ -1,5 +1,7 @@
-use Rattle.std.proofs.Common.{◌≡◌, ℕ, ◌+◌, ◌-◌, ◌*◌, ◌<◌, [], ◌∷◌, ◌++◌, map, length, get_or, take, drop, set, Some, None, sym, ap, ◌∙◌, arith}
-use Rattle.std.proofs.lemmas.List.{take_more_set, map_push, length-set}
+use Rattle.std.proofs.Common.{◌≡◌, ℕ, ◌+◌, ◌*◌, ◌<◌, List, [], ◌∷◌, ◌++◌, map, length, get_or, drop, Some, None, sym, ap, ◌∙◌, arith}
+use Rattle.std.proofs.lemmas.List.{map_push}
+use Rattle.relational.specs.declared.fact.Fact.{Fact as Stored}
+use Rattle.relational.specs.Elements.{elements}
 use Rattle.relational.specs.Instances.{Fact, Instance}
 use Rattle.relational.specs.Layout.{facts_in}
 use Rattle.relational.specs.Readings.{fact_at}
@@ -20,43 +22,29 @@ unreachable-requires c =
     let z : ◌≡◌ {A = ℕ} 0 1 = cc (a, b) in
     omega arith
 
-pub bounds-facts-used : goal.bounds-facts-used
-bounds-facts-used c = omega (arith, c.loop-i.invariant.1, c.loop-i.invariant.2)
-
 pub loop-i-preserved : goal.loop-i-preserved
 loop-i-preserved c =
     let facts : Instance = facts_in c.args.row.now c.args.count in
     let f : Fact = fact_of c.in-Some.fact in
-    let used = c.loop-i.used in
-    let seen : Instance = map fact_of (take used c.loop-i.facts) in
+    let seen : Instance = map fact_of (elements c.loop-i.facts) in
     let n = length_facts_from c.args.row.now 0 c.args.count in
     let l : c.loop-i.i < length facts = omega (arith, n) in
     let a = row_at 1 320 (fact_at c.args.row.now) c.args.row.now facts c.loop-i.i f c.requires.read l in
     let b = fact_rest (6 * c.loop-i.i + 1) c.args.row.now (Some f) c.in-Some.ensures.value in
     let is : get_or facts c.loop-i.i f ≡ f = cc (a, b) in
-    let same : used - 0 ≡ used = omega arith in
-    let told : c.stands.result ≡ any (same_fact f) seen = c.stands.ensures ∙ ap (λ (k : ℕ). any (same_fact f) (map fact_of (take k c.loop-i.facts))) same in
+    let told : c.stands.result ≡ any (same_fact f) seen = c.stands.ensures ∙ ap (λ (gs : List Stored). any (same_fact f) (map fact_of gs)) c.as_slice.ensures in
     elim c.if-not-stands.branch [
       | then-not-stands w ↦
-          let more : map fact_of (take (used + 1) (set c.loop-i.facts used c.in-Some.fact)) ≡ seen ++ f ∷ [] =
-          ap (map fact_of) (take_more_set c.loop-i.facts used c.in-Some.fact (omega (arith, c.loop-i.invariant.1, c.loop-i.invariant.2))) ∙ map_push fact_of (take used c.loop-i.facts) c.in-Some.fact in
-          rw (w.facts-is, w.used-is) (
+          let more : map fact_of (elements w.push.new.self) ≡ seen ++ f ∷ [] = ap (map fact_of) w.push.ensures.elements ∙ map_push fact_of (elements c.loop-i.facts) c.in-Some.fact in
+          rw w.facts-is (
             ap (λ (gs : Instance). gs ++ distinct_from gs (drop (c.loop-i.i + 1) facts)) more ∙ distinct_new facts seen c.loop-i.i f l is (sym w.if-not-stands.true ∙ told) ∙ c.loop-i.invariant.0,
-            omega (arith, c.loop-i.invariant.1),
-            length-set c.loop-i.facts used c.in-Some.fact ∙ c.loop-i.invariant.2,
+            omega (arith, c.loop-i.invariant.1, w.push.ensures.count),
           )
       | else-not-stands w ↦
-          rw (w.facts-is, w.used-is)
-          (distinct_old facts seen c.loop-i.i f l is (sym w.if-not-stands.false ∙ told) ∙ c.loop-i.invariant.0, omega (arith, c.loop-i.invariant.1), c.loop-i.invariant.2)
+          rw w.facts-is (distinct_old facts seen c.loop-i.i f l is (sym w.if-not-stands.false ∙ told) ∙ c.loop-i.invariant.0, omega (arith, c.loop-i.invariant.1))
     ]
-
-pub shape_of-facts : goal.shape_of-facts
-shape_of-facts c = c.loop-i.invariant.2
 
 pub returns : goal.returns
 returns c =
     let n = length_facts_from c.args.row.now 0 c.args.count in
-    record {
-      value = distinct_all (facts_in c.args.row.now c.args.count) (map fact_of (take c.loop-i.used c.loop-i.facts)) c.loop-i.i (omega (arith, n)) ∙ c.loop-i.invariant.0;
-      few = omega (arith, c.loop-i.invariant.1);
-    }
+    distinct_all (facts_in c.args.row.now c.args.count) (map fact_of (elements c.loop-i.facts)) c.loop-i.i (omega (arith, n)) ∙ c.loop-i.invariant.0

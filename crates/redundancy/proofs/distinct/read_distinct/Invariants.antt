@@ -1,4 +1,5 @@
-use Rattle.std.proofs.Common.{◌≡◌, ◌≤◌, ◌++◌, map, length, take, drop}
+use Rattle.std.proofs.Common.{◌≡◌, ◌≤◌, ◌++◌, map, drop}
+use Rattle.relational.specs.Elements.{elements}
 use Rattle.relational.specs.Layout.{facts_in}
 use Rattle.relational.specs.Represented.{fact_of}
 use Rattle.redundancy.specs.Cores.{distinct_from, distinct}
@@ -6,6 +7,4 @@ use Rattle.redundancy.proofs.distinct.read_distinct.Given as goal
 
 abbrev pub invariant-loop-i : goal.invariant-loop-i
 invariant-loop-i l =
-    (map fact_of (take l.used l.facts) ++ distinct_from (map fact_of (take l.used l.facts)) (drop l.i (facts_in l.row l.count)) ≡ distinct (facts_in l.row l.count))
-    × (l.used ≤ l.i)
-    × (length l.facts ≡ length l.initial.facts)
+    (map fact_of (elements l.facts) ++ distinct_from (map fact_of (elements l.facts)) (drop l.i (facts_in l.row l.count)) ≡ distinct (facts_in l.row l.count)) × (l.facts.count ≤ l.i)

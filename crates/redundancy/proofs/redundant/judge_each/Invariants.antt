@@ -1,6 +1,9 @@
-use Rattle.relational.specs.Requests.{dependencies_of}
+use Rattle.std.proofs.Common.{◌≡◌, map}
+use Rattle.relational.specs.Elements.{elements}
+use Rattle.relational.specs.Represented.{dependency_of}
 use Rattle.redundancy.proofs.Removing.{JudgedSoFar}
 use Rattle.redundancy.proofs.redundant.judge_each.Given as goal
 
-abbrev pub invariant-loop-i : goal.invariant-loop-i
-invariant-loop-i l = JudgedSoFar l.c (dependencies_of l.tgds) (dependencies_of l.left) l.at l.i l.stays
+abbrev pub invariant-loop-asked : goal.invariant-loop-asked
+invariant-loop-asked l =
+    JudgedSoFar l.c (map dependency_of l.all) (map dependency_of (elements l.left)) l.at l.asked-index (elements l.stays) × (l.stays.count ≡ l.asked-index)
