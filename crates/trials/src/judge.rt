@@ -18,9 +18,10 @@ const EFFORT: u64 = 1_000_000;
 // How many numbers there is room for in answers.
 const ANSWERS_LEN: usize = 16_385;
 
-// A result, the same as a pattern, and the certain answers.
+// A result of a request, the same as a pattern, and the certain answers.
 #[derive(Clone, Copy)]
 pub struct Moved<'a> {
+    pub request: &'a Request,
     pub instance: Instance<'a>,
     pub pattern: &'a [Atom],
     answers: &'a [Fact],
@@ -81,38 +82,34 @@ impl Judge {
         let answers = self.judge_answers(request, instance)?;
         let pattern = instance.pattern(request.heap)?;
         let moved = Moved {
+            request,
             instance,
             pattern: pattern.as_slice(),
             answers: answers.as_slice(),
         };
-        self.judge_all_others(request, moved)?;
-        self.judge_core(request, moved)?;
+        self.judge_all_others(moved)?;
+        self.judge_core(moved)?;
         self.judge_too_much(request, instance)
     }
 
     // The other instances that a result is held against.
-    fn judge_all_others(&mut self, request: &Request, moved: Moved) -> Result<(), Stop> {
+    fn judge_all_others(&mut self, moved: Moved) -> Result<(), Stop> {
+        let request = moved.request;
         let heap = request.heap;
         let solution = moved.instance;
-        self.judge_others(request, moved, 2, Seen::OfMoreFacts, move |maker| {
+        self.judge_others(moved, 2, Seen::OfMoreFacts, move |maker| {
             maker.of_more_facts(request)
         })?;
-        self.judge_others(request, moved, 3, Seen::Merged, move |maker| {
+        self.judge_others(moved, 3, Seen::Merged, move |maker| {
             maker.merged(heap, solution)
         })?;
-        self.judge_others(request, moved, 2, Seen::WithJunk, move |maker| {
+        self.judge_others(moved, 2, Seen::WithJunk, move |maker| {
             maker.with_junk(heap, solution)
         })?;
-        self.judge_others(request, moved, 4, Seen::Completed, move |maker| {
+        self.judge_others(moved, 4, Seen::Completed, move |maker| {
             maker.completed(request)
         })?;
-        self.judge_others(
-            request,
-            moved,
-            2,
-            Seen::Drawn,
-            move |maker| maker.drawn(request),
-        )
+        self.judge_others(moved, 2, Seen::Drawn, move |maker| maker.drawn(request))
     }
 
     // The steps as they are laid down come to the same end, and to the same facts where it is done.
@@ -158,7 +155,6 @@ impl Judge {
     // Holds the result against so many other instances that are made: where one is a solution, the result goes into it.
     fn judge_others<F: Fn(&mut Maker) -> Result<Option<Vec<Fact>>, Stop>>(
         &mut self,
-        request: &Request,
         moved: Moved,
         times: u64,
         seen: Seen,
@@ -170,9 +166,13 @@ impl Judge {
             let Some(other) = make(&mut self.maker)? else {
                 continue;
             };
-            if self.maker.finder.solves(&request.case, other.as_slice())? {
+            if self
+                .maker
+                .finder
+                .solves(&moved.request.case, other.as_slice())?
+            {
                 self.tally.count(seen)?;
-                self.judge_solution(request, moved, other.as_slice())?;
+                self.judge_solution(moved, other.as_slice())?;
             } else {
                 self.tally.count(Seen::NoSolution)?;
                 let expected = matches!(seen, Seen::OfMoreFacts | Seen::Completed);
@@ -183,12 +183,8 @@ impl Judge {
     }
 
     // The result goes into another solution, which has the certain answers.
-    fn judge_solution(
-        &mut self,
-        request: &Request,
-        moved: Moved,
-        other: &[Fact],
-    ) -> Result<(), Stop> {
+    fn judge_solution(&mut self, moved: Moved, other: &[Fact]) -> Result<(), Stop> {
+        let request = moved.request;
         let query = &request.case.query;
         let other = Instance {
             facts: other,

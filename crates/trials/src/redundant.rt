@@ -37,7 +37,8 @@ fn body_facts<F: Fn(u64) -> u64>(
 
 impl Judge {
     // The core is a part of the result into which it goes, and a solution.
-    pub fn judge_core(&mut self, request: &Request, moved: Moved) -> Result<(), Stop> {
+    pub fn judge_core(&mut self, moved: Moved) -> Result<(), Stop> {
+        let request = moved.request;
         if moved.instance.facts.len() > CORE_FACTS {
             return Ok(());
         }
