@@ -49,12 +49,7 @@ impl Moves {
         let facts = self.facts_row()?;
         let rules = self.rules_row()?;
         let mut out = [0; INSTANCE_LEN];
-        Ok(Words(move_facts(
-            facts.as_slice(),
-            rules.as_slice(),
-            &mut out,
-            c,
-        )))
+        Ok(Words(move_facts(facts.as_slice(), rules.as_slice(), &mut out, c)))
     }
 }
 

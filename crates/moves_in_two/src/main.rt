@@ -12,13 +12,7 @@ fn told_in_two(moves: &Moves, first: usize) -> Result<Words, AllocError> {
     let facts = moves.facts_row()?;
     let rules = moves.rules_row()?;
     let mut out = [0; INSTANCE_LEN];
-    Ok(Words(move_in_two(
-        facts.as_slice(),
-        rules.as_slice(),
-        first,
-        &mut out,
-        1000,
-    )))
+    Ok(Words(move_in_two(facts.as_slice(), rules.as_slice(), first, &mut out, 1000)))
 }
 
 // Facts 0(i), which are copied to relation 1 and from there to the relation of `last`.
@@ -46,9 +40,15 @@ fn main(rt: HostRuntime) -> io::Result<()> {
     println!(rt; "all at once: {}", named.told(1000)?)?;
     println!(rt; "an egd in the second stage: {}", told_in_two(&named, 2)?)?;
     let some = copies(heap, 63, "2(x)")?;
-    println!(rt; "126 changing steps and two looks: {}", told_in_two(&some, 1)?)?;
+    println!(rt;
+        "126 changing steps and two looks: {}",
+        told_in_two(&some, 1)?
+    )?;
     let more = copies(heap, 64, "2(x)")?;
-    println!(rt; "128 changing steps and two looks: {}", told_in_two(&more, 1)?)?;
+    println!(rt;
+        "128 changing steps and two looks: {}",
+        told_in_two(&more, 1)?
+    )?;
     let back = copies(heap, 3, "0(x)")?;
     println!(rt;
         "back to a relation that the first look at: {}",
