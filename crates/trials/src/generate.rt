@@ -1,8 +1,9 @@
 // Random cases: few relations, mostly of one or two places, and few constants, so that atoms meet facts and egds meet values that differ.
 ghost use Rattle.std.specs.Prelude.{◌≤◌};
 
-use crate::model::{Atom, Case, Dependency, Fact, Query};
+use crate::model::{Case, Query, variables};
 use crate::random::Random;
+use move_rows::{Atom, Dependency, Fact, bounded};
 use relational::Term;
 use std::alloc::{AllocError, Global};
 
@@ -21,76 +22,6 @@ struct Size {
     large: bool,
 }
 
-fn random_size(random: &mut Random) -> Size {
-    if random.below(250) == 0 {
-        return Size {
-            c: 60,
-            facts: 50 + random.below(15),
-            dependencies: 2,
-            large: true,
-        };
-    }
-    Size {
-        c: random.one_of(&[0, 1, 2, 3, 4, 4, 5, 5, 6, 6, 8, 8]),
-        facts: random.one_of(&[0, 1, 2, 3, 4, 5, 6, 7, 8, 10]),
-        dependencies: random.one_of(&[0, 1, 2, 3, 3, 4, 4, 5, 6]),
-        large: false,
-    }
-}
-
-// Mostly the width of the relation; sometimes one more.
-fn usual_width(random: &mut Random, relation: u64) -> usize
-    ensures { result ≤ 4 }
-{
-    let usual = match relation {
-        0 | 6 => 0,
-        1 | 5 => 1,
-        2..=4 => 2,
-        _ => 3,
-    };
-    if random.chance(6) { usual + 1 } else { usual }
-}
-
-// A relation: so many times in a hundred a source.
-fn random_relation(random: &mut Random, source_percent: u64) -> u64 {
-    if random.chance(source_percent) {
-        random.one_of(&SOURCES)
-    } else {
-        random.one_of(&TARGETS)
-    }
-}
-
-// A fact of numbers below `end`; without numbers, one without values.
-pub fn random_fact(random: &mut Random, end: u64) -> Fact {
-    let relation = random_relation(random, 60);
-    if end == 0 {
-        return Fact::new(relation, &[]);
-    }
-    let width = usual_width(random, relation);
-    let mut values = [0; 4];
-    for value in values.iter_mut().take(width) {
-        *value = random.below(end);
-    }
-    Fact {
-        relation,
-        width,
-        values,
-    }
-}
-
-// So many facts of numbers below `end`.
-pub fn put_random_facts(
-    random: &mut Random,
-    facts: &mut Vec<Fact>,
-    count: u64,
-    end: u64,
-) -> Result<(), AllocError> {
-    for _ in 0..count {
-        facts.push(random_fact(random, end))?;
-    }
-    Ok(())
-}
-
 // What atoms are drawn from: a share of sources, so many variables from the first on, and the constants below c.
 #[derive(Clone, Copy)]
 struct Draw {
@@ -100,221 +31,288 @@ struct Draw {
     c: u64,
 }
 
-fn random_term(random: &mut Random, draw: Draw) -> Term {
-    if draw.c > 0 && random.chance(8) {
-        return Term::Constant(random.below(draw.c));
-    }
-    Term::Variable(draw.first.saturating_add(random.below(draw.variables)))
-}
-
-fn random_atom(random: &mut Random, draw: Draw) -> Atom {
-    let relation = random_relation(random, draw.source_percent);
-    let width = usual_width(random, relation);
-    let mut terms = [Term::Constant(0); 4];
-    for term in terms.iter_mut().take(width) {
-        *term = random_term(random, draw);
-    }
-    Atom {
-        relation,
-        width,
-        terms,
+// The width that most facts and atoms of a relation have.
+fn usual_width(relation: u64) -> usize
+    ensures { result ≤ 3 }
+{
+    match relation {
+        0 | 6 => 0,
+        1 | 5 => 1,
+        2..=4 => 2,
+        _ => 3,
     }
 }
 
-fn random_atoms(
+// Facts, dependencies and cases out of random numbers.
+#[derive(Drop)]
+pub struct Generator<'a> {
     heap: Global,
-    random: &mut Random,
-    count: u64,
-    draw: Draw,
-) -> Result<Vec<Atom>, AllocError> {
-    let mut atoms = Vec::new(heap);
-    for _ in 0..count {
-        atoms.push(random_atom(random, draw))?;
-    }
-    Ok(atoms)
+    random: &'a mut Random,
 }
 
-// The variables of the atoms, as often as they stand there.
-pub fn variables(heap: Global, atoms: &[Atom]) -> Result<Vec<u64>, AllocError> {
-    let mut names = Vec::new(heap);
-    for atom in atoms {
-        for term in atom.terms.iter().take(atom.width) {
-            if let Term::Variable(x) = *term {
-                names.push(x)?;
-            }
+impl<'a> Generator<'a> {
+    pub fn new(heap: Global, random: &'a mut Random) -> Generator<'a> {
+        Generator { heap, random }
+    }
+}
+
+impl Generator<'_> {
+    // A relation: so many times in a hundred a source.
+    fn relation(&mut self, source_percent: u64) -> u64 {
+        if self.random.chance(source_percent) {
+            self.random.one_of(&SOURCES)
+        } else {
+            self.random.one_of(&TARGETS)
         }
     }
-    Ok(names)
-}
 
-// Where two facts of a relation of two places agree in the one, they agree in the other.
-fn key(heap: Global, random: &mut Random) -> Result<Dependency, AllocError> {
-    let relation = 3 + random.below(2);
-    let x = Term::Variable(0);
-    let y = Term::Variable(1);
-    let z = Term::Variable(2);
-    let mut body = Vec::new(heap);
-    if random.chance(60) {
-        body.extend_from_slice(&[Atom::new(relation, &[x, y]), Atom::new(relation, &[x, z])])?;
-    } else {
-        body.extend_from_slice(&[Atom::new(relation, &[y, x]), Atom::new(relation, &[z, x])])?;
+    // Mostly the width of the relation; sometimes one more.
+    fn width(&mut self, relation: u64) -> usize
+        ensures { result ≤ 4 }
+    {
+        let usual = usual_width(relation);
+        if self.random.chance(6) {
+            usual + 1
+        } else {
+            usual
+        }
     }
-    Ok(Dependency::Egd {
-        body,
-        left: 1,
-        right: 2,
-    })
-}
 
-// An egd; without a variable in its body, a tgd that gives nothing.
-fn random_egd(heap: Global, random: &mut Random, draw: Draw) -> Result<Dependency, AllocError> {
-    if random.chance(75) {
-        return key(heap, random);
+    // A fact of numbers below `end`; without numbers, one without values.
+    fn fact(&mut self, end: u64) -> Fact {
+        let relation = self.relation(60);
+        if end == 0 {
+            return Fact::new(relation, &[]);
+        }
+        let width = self.width(relation);
+        let places = [(); 4];
+        Fact {
+            relation,
+            values: bounded(&places[..width], 0, |_| self.random.below(end)),
+        }
     }
-    let count = random.one_of(&[1, 2, 2, 2]);
-    let body = random_atoms(heap, random, count, draw)?;
-    let names = variables(heap, body.as_slice())?;
-    if names.is_empty() {
-        return Ok(Dependency::Tgd {
-            body,
-            head: Vec::new(heap),
-        });
-    }
-    let left = random.one_of(names.as_slice());
-    let right = random.one_of(names.as_slice());
-    Ok(Dependency::Egd { body, left, right })
-}
 
-// Something new between the two values of a fact, or beside its one value: where there is a key, it meets others of its kind.
-fn link(heap: Global, random: &mut Random) -> Result<Dependency, AllocError> {
-    let x = Term::Variable(4);
-    let y = Term::Variable(3);
-    let z = Term::Variable(2);
-    let mut body = Vec::new(heap);
-    if random.chance(70) {
-        body.extend_from_slice(&[Atom::new(2, &[x, y])])?;
-    } else {
-        body.extend_from_slice(&[Atom::new(1, &[x])])?;
+    // So many facts of numbers below `end`.
+    pub fn put_facts(
+        &mut self,
+        facts: &mut Vec<Fact>,
+        count: u64,
+        end: u64,
+    ) -> Result<(), AllocError> {
+        for _ in 0..count {
+            facts.push(self.fact(end))?;
+        }
+        Ok(())
     }
-    let mut head = Vec::new(heap);
-    if random.chance(50) {
-        head.extend_from_slice(&[Atom::new(3, &[x, z]), Atom::new(4, &[z, y])])?;
-    } else {
-        head.extend_from_slice(&[Atom::new(4, &[z, x]), Atom::new(5, &[z])])?;
-    }
-    Ok(Dependency::Tgd { body, head })
-}
 
-// A fact for each pair of a fact of one place and one of two.
-fn product(heap: Global) -> Result<Dependency, AllocError> {
-    let x = Term::Variable(0);
-    let y = Term::Variable(1);
-    let z = Term::Variable(15);
-    let mut body = Vec::new(heap);
-    body.extend_from_slice(&[Atom::new(1, &[x]), Atom::new(2, &[y, z])])?;
-    let mut head = Vec::new(heap);
-    head.extend_from_slice(&[Atom::new(0xffff_ffff, &[x, y, z])])?;
-    Ok(Dependency::Tgd { body, head })
-}
-
-// Bodies of more atoms are mostly sources, since going through relations that grow costs most.
-fn random_tgd(heap: Global, random: &mut Random, draw: Draw) -> Result<Dependency, AllocError> {
-    if random.chance(50) {
-        return link(heap, random);
+    fn term(&mut self, draw: Draw) -> Term {
+        if draw.c > 0 && self.random.chance(8) {
+            return Term::Constant(self.random.below(draw.c));
+        }
+        Term::Variable(draw.first.saturating_add(self.random.below(draw.variables)))
     }
-    let count = random.one_of(&[0, 1, 1, 1, 1, 1, 1, 1, 1, 1, 1, 2, 2, 2, 2, 2, 2, 2, 2, 3]);
-    let draw = Draw {
-        source_percent: match count {
+
+    fn atom(&mut self, draw: Draw) -> Atom {
+        let relation = self.relation(draw.source_percent);
+        let width = self.width(relation);
+        let places = [(); 4];
+        Atom {
+            relation,
+            terms: bounded(&places[..width], Term::Constant(0), |_| self.term(draw)),
+        }
+    }
+
+    fn atoms(&mut self, count: u64, draw: Draw) -> Result<Vec<Atom>, AllocError> {
+        let mut atoms = Vec::new(self.heap);
+        for _ in 0..count {
+            atoms.push(self.atom(draw))?;
+        }
+        Ok(atoms)
+    }
+
+    // Where two facts of a relation of two places agree in the one, they agree in the other.
+    fn key(&mut self) -> Result<Dependency, AllocError> {
+        let relation = 3 + self.random.below(2);
+        let x = Term::Variable(0);
+        let y = Term::Variable(1);
+        let z = Term::Variable(2);
+        let body = if self.random.chance(60) {
+            [Atom::new(relation, &[x, y]), Atom::new(relation, &[x, z])]
+        } else {
+            [Atom::new(relation, &[y, x]), Atom::new(relation, &[z, x])]
+        };
+        Ok(Dependency::Egd {
+            body: Vec::from_slice(self.heap, &body)?,
+            left: 1,
+            right: 2,
+        })
+    }
+
+    // An egd; without a variable in its body, a tgd that gives nothing.
+    fn egd(&mut self, draw: Draw) -> Result<Dependency, AllocError> {
+        if self.random.chance(75) {
+            return self.key();
+        }
+        let count = self.random.one_of(&[1, 2, 2, 2]);
+        let body = self.atoms(count, draw)?;
+        let names = variables(self.heap, body.as_slice())?;
+        if names.is_empty() {
+            let head = Vec::new(self.heap);
+            return Ok(Dependency::Tgd { body, head });
+        }
+        let left = self.random.one_of(names.as_slice());
+        let right = self.random.one_of(names.as_slice());
+        Ok(Dependency::Egd { body, left, right })
+    }
+
+    fn tgd_of(&self, body: &[Atom], head: &[Atom]) -> Result<Dependency, AllocError> {
+        Ok(Dependency::Tgd {
+            body: Vec::from_slice(self.heap, body)?,
+            head: Vec::from_slice(self.heap, head)?,
+        })
+    }
+
+    // Something new between the two values of a fact, or beside its one value: where there is a key, it meets others of its kind.
+    fn link(&mut self) -> Result<Dependency, AllocError> {
+        let x = Term::Variable(4);
+        let y = Term::Variable(3);
+        let z = Term::Variable(2);
+        let body = if self.random.chance(70) {
+            Atom::new(2, &[x, y])
+        } else {
+            Atom::new(1, &[x])
+        };
+        let head = if self.random.chance(50) {
+            [Atom::new(3, &[x, z]), Atom::new(4, &[z, y])]
+        } else {
+            [Atom::new(4, &[z, x]), Atom::new(5, &[z])]
+        };
+        self.tgd_of(&[body], &head)
+    }
+
+    // A fact for each pair of a fact of one place and one of two.
+    fn product(&self) -> Result<Dependency, AllocError> {
+        let x = Term::Variable(0);
+        let y = Term::Variable(1);
+        let z = Term::Variable(15);
+        let body = [Atom::new(1, &[x]), Atom::new(2, &[y, z])];
+        self.tgd_of(&body, &[Atom::new(0xffff_ffff, &[x, y, z])])
+    }
+
+    // Bodies of more atoms are mostly sources, since going through relations that grow costs most.
+    fn tgd(&mut self, draw: Draw) -> Result<Dependency, AllocError> {
+        if self.random.chance(50) {
+            return self.link();
+        }
+        let count = self.random.one_of(&[
+            0, 1, 1, 1, 1, 1, 1, 1, 1, 1, 1, 2, 2, 2, 2, 2, 2, 2, 2, 3,
+        ]);
+        let source_percent = match count {
             0 | 1 => 75,
             2 => 92,
             _ => 99,
-        },
-        ..draw
-    };
-    let body = random_atoms(heap, random, count, draw)?;
-    let count = random.one_of(&[0, 1, 1, 1, 1, 1, 1, 1, 1, 2, 2, 2, 2, 2, 2, 2, 2, 2]);
-    let draw = Draw {
-        source_percent: 6,
-        variables: 4,
-        ..draw
-    };
-    let head = random_atoms(heap, random, count, draw)?;
-    Ok(Dependency::Tgd { body, head })
-}
-
-// A tgd to be asked about.
-pub fn random_question(
-    heap: Global,
-    random: &mut Random,
-    c: u64,
-) -> Result<Dependency, AllocError> {
-    let draw = Draw {
-        source_percent: 10,
-        first: 0,
-        variables: 3,
-        c,
-    };
-    random_tgd(heap, random, draw)
-}
-
-fn random_dependency(
-    heap: Global,
-    random: &mut Random,
-    size: Size,
-) -> Result<Dependency, AllocError> {
-    if size.large {
-        return product(heap);
+        };
+        let body = self.atoms(
+            count,
+            Draw {
+                source_percent,
+                ..draw
+            },
+        )?;
+        let count = self
+            .random
+            .one_of(&[0, 1, 1, 1, 1, 1, 1, 1, 1, 2, 2, 2, 2, 2, 2, 2, 2, 2]);
+        let draw = Draw {
+            source_percent: 6,
+            variables: 4,
+            ..draw
+        };
+        let head = self.atoms(count, draw)?;
+        Ok(Dependency::Tgd { body, head })
     }
-    let draw = Draw {
-        source_percent: 10,
-        first: random.one_of(&[0, 0, 12]),
-        variables: 3,
-        c: size.c,
-    };
-    if random.chance(40) {
-        random_egd(heap, random, draw)
-    } else {
-        random_tgd(heap, random, draw)
-    }
-}
 
-// A query of one to three atoms; its row has variables of theirs, and a constant now and then.
-fn random_query(heap: Global, random: &mut Random, c: u64) -> Result<Query, AllocError> {
-    let count = random.one_of(&[1, 1, 1, 2, 2, 3]);
-    let draw = Draw {
-        source_percent: 20,
-        first: 5,
-        variables: 3,
-        c,
-    };
-    let atoms = random_atoms(heap, random, count, draw)?;
-    let names = variables(heap, atoms.as_slice())?;
-    let mut row = Vec::new(heap);
-    for _ in 0..random.below(4) {
-        if c > 0 && random.chance(5) {
-            row.push(Term::Constant(random.below(c)))?;
-        } else if !names.is_empty() {
-            row.push(Term::Variable(random.one_of(names.as_slice())))?;
+    // A tgd to be asked about.
+    pub fn question(&mut self, c: u64) -> Result<Dependency, AllocError> {
+        self.tgd(Draw {
+            source_percent: 10,
+            first: 0,
+            variables: 3,
+            c,
+        })
+    }
+
+    fn dependency(&mut self, size: Size) -> Result<Dependency, AllocError> {
+        if size.large {
+            return self.product();
+        }
+        let draw = Draw {
+            source_percent: 10,
+            first: self.random.one_of(&[0, 0, 12]),
+            variables: 3,
+            c: size.c,
+        };
+        if self.random.chance(40) {
+            self.egd(draw)
+        } else {
+            self.tgd(draw)
         }
     }
-    Ok(Query {
-        row: Atom::new(0, row.as_slice()),
-        atoms,
-    })
-}
 
-pub fn random_case(heap: Global, random: &mut Random) -> Result<Case, AllocError> {
-    let size = random_size(random);
-    let mut facts = Vec::new(heap);
-    put_random_facts(random, &mut facts, size.facts, size.c)?;
-    let mut dependencies = Vec::new(heap);
-    for _ in 0..size.dependencies {
-        dependencies.push(random_dependency(heap, random, size)?)?;
+    // A query of one to three atoms; its row has variables of theirs, and a constant now and then.
+    fn query(&mut self, c: u64) -> Result<Query, AllocError> {
+        let count = self.random.one_of(&[1, 1, 1, 2, 2, 3]);
+        let draw = Draw {
+            source_percent: 20,
+            first: 5,
+            variables: 3,
+            c,
+        };
+        let atoms = self.atoms(count, draw)?;
+        let names = variables(self.heap, atoms.as_slice())?;
+        let mut row = Vec::new(self.heap);
+        for _ in 0..self.random.below(4) {
+            if c > 0 && self.random.chance(5) {
+                row.push(Term::Constant(self.random.below(c)))?;
+            } else if !names.is_empty() {
+                row.push(Term::Variable(self.random.one_of(names.as_slice())))?;
+            }
+        }
+        Ok(Query {
+            row: Atom::new(0, row.as_slice()),
+            atoms,
+        })
     }
-    Ok(Case {
-        c: size.c,
-        facts,
-        dependencies,
-        query: random_query(heap, random, size.c)?,
-    })
+
+    fn size(&mut self) -> Size {
+        if self.random.below(250) == 0 {
+            return Size {
+                c: 60,
+                facts: 50 + self.random.below(15),
+                dependencies: 2,
+                large: true,
+            };
+        }
+        Size {
+            c: self.random.one_of(&[0, 1, 2, 3, 4, 4, 5, 5, 6, 6, 8, 8]),
+            facts: self.random.one_of(&[0, 1, 2, 3, 4, 5, 6, 7, 8, 10]),
+            dependencies: self.random.one_of(&[0, 1, 2, 3, 3, 4, 4, 5, 6]),
+            large: false,
+        }
+    }
+
+    pub fn case(&mut self) -> Result<Case, AllocError> {
+        let size = self.size();
+        let mut facts = Vec::new(self.heap);
+        self.put_facts(&mut facts, size.facts, size.c)?;
+        let mut dependencies = Vec::new(self.heap);
+        for _ in 0..size.dependencies {
+            dependencies.push(self.dependency(size)?)?;
+        }
+        Ok(Case {
+            c: size.c,
+            facts,
+            dependencies,
+            query: self.query(size.c)?,
+        })
+    }
 }

@@ -12,27 +12,25 @@ mod others;
 mod random;
 mod redundant;
 mod request;
-mod rows;
 mod tally;
 mod teach;
-mod text;
 
 use finder::Stop;
-use generate::random_case;
+use generate::Generator;
 use judge::Judge;
 use lessons::{LESSONS, Lesson};
 use request::Request;
 use std::alloc::Global;
 use std::{env, io};
 use tally::{LABELS, Seen, Tally};
-use teach::{Verdict, learn};
+use teach::learn;
 
 const SEED: u64 = 1;
 
 const CASES: u64 = 4000;
 
 fn try_case(heap: Global, judge: &mut Judge) -> Result<(), Stop> {
-    let case = random_case(heap, &mut judge.random)?;
+    let case = Generator::new(heap, &mut judge.maker.random).case()?;
     let request = Request::new(heap, case)?;
     judge.judge(&request)?;
     judge.judge_implied(&request)
@@ -44,7 +42,7 @@ fn try_cases(heap: Global, seed: u64, cases: u64) -> Result<Tally, Stop> {
         judge.begin(seed, number);
         match try_case(heap, &mut judge) {
             Ok(()) => {}
-            Err(Stop::Effort) => judge.tally.count(Seen::LeftOut),
+            Err(Stop::Effort) => judge.tally.count(Seen::LeftOut)?,
             Err(Stop::Memory) => return Err(Stop::Memory),
         }
     }
@@ -52,8 +50,8 @@ fn try_cases(heap: Global, seed: u64, cases: u64) -> Result<Tally, Stop> {
 }
 
 fn print_tally(rt: &HostRuntime, seed: u64, tally: &Tally) -> io::Result<()> {
-    for (label, count) in LABELS.iter().zip(tally.counts.iter()) {
-        println!(rt; "{label}: {count}")?;
+    for (seen, label) in LABELS.iter() {
+        println!(rt; "{label}: {}", tally.times(*seen))?;
     }
     println!(rt; "failures: {}", tally.failures.len())?;
     for failure in tally.failures.iter() {
@@ -66,18 +64,16 @@ fn print_tally(rt: &HostRuntime, seed: u64, tally: &Tally) -> io::Result<()> {
 fn print_lesson(rt: &HostRuntime, lesson: &Lesson) -> io::Result<()> {
     let mistake = lesson.mistake;
     match learn(rt.alloc(), lesson) {
-        Ok(Verdict { right: true, fault }) => println!(rt; "{mistake}: right (mistaken: {fault})"),
-        Ok(_) => println!(rt; "{mistake}: WRONG"),
+        Ok(Some(fault)) => println!(rt; "{mistake}: right (mistaken: {fault})"),
+        Ok(None) => println!(rt; "{mistake}: WRONG"),
         Err(_) => println!(rt; "{mistake}: not judged"),
     }
 }
 
 // The number that a word of the command is, or else the other.
 fn number_or(word: Option<&String>, other: u64) -> u64 {
-    match word {
-        Some(word) => word.as_str().parse::<u64>().unwrap_or(other),
-        None => other,
-    }
+    let number = word.and_then(|word| word.as_str().parse::<u64>().ok());
+    number.unwrap_or(other)
 }
 
 fn print_trials(rt: &HostRuntime, seed: u64, cases: u64) -> io::Result<()> {

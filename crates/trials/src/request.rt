@@ -1,8 +1,9 @@
 // A case with its rows of numbers, as it is put to the engine.
 use crate::model::Case;
-use crate::rows::{dependencies_row, facts_row, query_row};
 use chase::{Reply, move_facts};
+use move_rows::{dependencies_row, facts_row, query_row};
 use query::{Answer, certain_answers};
+use relational::Refusal;
 use std::alloc::{AllocError, Global};
 
 #[derive(Drop)]
@@ -17,8 +18,12 @@ pub struct Request {
 impl Request {
     pub fn new(heap: Global, case: Case) -> Result<Request, AllocError> {
         let facts = facts_row(heap, case.facts.as_slice())?;
-        let rules = dependencies_row(heap, &case)?;
-        let query = query_row(heap, &case.query)?;
+        let rules = dependencies_row(heap, case.dependencies.as_slice())?;
+        let query = query_row(
+            heap,
+            case.query.row.terms.as_slice(),
+            case.query.atoms.as_slice(),
+        )?;
         Ok(Request {
             heap,
             case,
@@ -32,22 +37,27 @@ impl Request {
         self.rules.as_slice()
     }
 
-    pub fn moved(&self, out: &mut [u64]) -> Reply {
-        move_facts(
-            self.facts.as_slice(),
-            self.rules.as_slice(),
-            out,
-            self.case.c,
-        )
+    // How many facts were written, or nothing where there is no solution.
+    pub fn moved(&self, out: &mut [u64]) -> Result<Option<u64>, Refusal> {
+        self.moved_with(self.facts.as_slice(), out)
     }
 
-    pub fn answered(&self, out: &mut [u64]) -> Answer {
-        certain_answers(
-            self.facts.as_slice(),
-            self.rules.as_slice(),
-            self.query.as_slice(),
-            out,
-            self.case.c,
-        )
+    // The same of other facts.
+    pub fn moved_with(&self, facts: &[u64], out: &mut [u64]) -> Result<Option<u64>, Refusal> {
+        match move_facts(facts, self.rules(), out, self.case.c) {
+            Reply::Done(count) => Ok(Some(count)),
+            Reply::Impossible => Ok(None),
+            Reply::Refused(refusal) => Err(refusal),
+        }
+    }
+
+    // How many answers were written, or nothing where there is no solution.
+    pub fn answered(&self, out: &mut [u64]) -> Result<Option<u64>, Refusal> {
+        let facts = self.facts.as_slice();
+        match certain_answers(facts, self.rules(), self.query.as_slice(), out, self.case.c) {
+            Answer::Done(count) => Ok(Some(count)),
+            Answer::Impossible => Ok(None),
+            Answer::Refused(refusal) => Err(refusal),
+        }
     }
 }

@@ -1,8 +1,9 @@
 // What the trials have seen.
 use crate::finder::Stop;
 use std::alloc::Global;
+use std::collections::BTreeMap;
 
-#[derive(Clone, Copy)]
+#[derive(Clone, Copy, PartialEq, Eq, PartialOrd, Ord)]
 pub enum Seen {
     Done,
     Impossible,
@@ -30,32 +31,62 @@ pub enum Seen {
     Check,
 }
 
-// What each count is called, in the order of what is seen.
-pub const LABELS: [&str; 24] = [
-    "done",
-    "impossible",
-    "given up, without ranks",
-    "given up, with ranks and a limit of 128 steps or more",
-    "left out from where finding matches took too long",
-    "results with nulls",
-    "cases in which an egd replaced a null by a constant",
-    "cases in which an egd replaced a null by a null",
-    "other solutions: from moving more facts",
-    "other solutions: the result with nulls replaced",
-    "other solutions: the result with any other facts",
-    "other solutions: from mending with any numbers",
-    "other solutions: the facts with any others",
-    "other solutions that do not go back into the result",
-    "other solutions with answers that are not certain",
-    "instances tried that are no solution",
-    "queries with certain answers",
-    "queries without certain answers",
-    "results spoiled by replacing nulls",
-    "spoiled results that do not go into some solution",
-    "cores that are smaller than the result",
-    "tgds that follow from those of the case",
-    "tgds that do not",
-    "checks",
+// What each count is called, in the order in which they are printed.
+pub const LABELS: [(Seen, &str); 24] = [
+    (Seen::Done, "done"),
+    (Seen::Impossible, "impossible"),
+    (Seen::Unranked, "given up, without ranks"),
+    (
+        Seen::BeyondSteps,
+        "given up, with ranks and a limit of 128 steps or more",
+    ),
+    (
+        Seen::LeftOut,
+        "left out from where finding matches took too long",
+    ),
+    (Seen::WithNulls, "results with nulls"),
+    (
+        Seen::IntoConstant,
+        "cases in which an egd replaced a null by a constant",
+    ),
+    (
+        Seen::IntoNull,
+        "cases in which an egd replaced a null by a null",
+    ),
+    (Seen::OfMoreFacts, "other solutions: from moving more facts"),
+    (
+        Seen::Merged,
+        "other solutions: the result with nulls replaced",
+    ),
+    (
+        Seen::WithJunk,
+        "other solutions: the result with any other facts",
+    ),
+    (
+        Seen::Completed,
+        "other solutions: from mending with any numbers",
+    ),
+    (Seen::Drawn, "other solutions: the facts with any others"),
+    (
+        Seen::OneWay,
+        "other solutions that do not go back into the result",
+    ),
+    (
+        Seen::Uncertain,
+        "other solutions with answers that are not certain",
+    ),
+    (Seen::NoSolution, "instances tried that are no solution"),
+    (Seen::Answered, "queries with certain answers"),
+    (Seen::Unanswered, "queries without certain answers"),
+    (Seen::TooMuch, "results spoiled by replacing nulls"),
+    (
+        Seen::Noticed,
+        "spoiled results that do not go into some solution",
+    ),
+    (Seen::Smaller, "cores that are smaller than the result"),
+    (Seen::Implied, "tgds that follow from those of the case"),
+    (Seen::NotImplied, "tgds that do not"),
+    (Seen::Check, "checks"),
 ];
 
 // What was to hold and did not, and in which case.
@@ -68,7 +99,7 @@ pub struct Failure {
 #[derive(Drop)]
 pub struct Tally {
     pub case: u64,
-    pub counts: [u64; 24],
+    counts: BTreeMap<Seen, u64>,
     pub failures: Vec<Failure>,
 }
 
@@ -76,20 +107,25 @@ impl Tally {
     pub fn new(heap: Global) -> Tally {
         Tally {
             case: 0,
-            counts: [0; 24],
+            counts: BTreeMap::new(heap),
             failures: Vec::new(heap),
         }
     }
 
-    pub fn count(&mut self, seen: Seen) {
-        if let Some(count) = self.counts.get_mut(seen as usize) {
-            *count = count.saturating_add(1);
-        }
+    // How often it was seen.
+    pub fn times(&self, seen: Seen) -> u64 {
+        self.counts.get(&seen).copied().unwrap_or(0)
+    }
+
+    pub fn count(&mut self, seen: Seen) -> Result<(), Stop> {
+        let times = self.times(seen).saturating_add(1);
+        self.counts.insert(seen, times)?;
+        Ok(())
     }
 
     // Counts a check, and keeps what fails.
     pub fn check(&mut self, holds: bool, what: &'static str) -> Result<(), Stop> {
-        self.count(Seen::Check);
+        self.count(Seen::Check)?;
         if !holds {
             let case = self.case;
             self.failures.push(Failure { case, what })?;
