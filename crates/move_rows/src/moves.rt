@@ -2,7 +2,7 @@
 use crate::model::{Dependency, Fact};
 use crate::rows::{dependencies_row, facts_row};
 use crate::text::{read_dependency, read_facts};
-use chase::{Reply, move_facts};
+use chase::move_facts;
 use relational::{INSTANCE_LEN, Refusal};
 use std::alloc::{AllocError, Global};
 use std::fmt;
@@ -55,16 +55,14 @@ impl Moves {
 
 // The reply to a move, to be printed.
 #[derive(Clone, Copy)]
-pub struct Words(pub Reply);
+pub struct Words(pub Result<Option<u64>, Refusal>);
 
 impl fmt::Display for Words {
     fn fmt<W: fmt::Write>(&self, f: &mut fmt::Formatter<W>) -> fmt::Result {
         match self.0 {
-            Reply::Done(count) => write!(f, "done {count}"),
-            Reply::Impossible => write!(f, "impossible"),
-            Reply::Refused(Refusal::Dependencies { at }) => write!(f, "refused 2 at {at}"),
-            Reply::Refused(Refusal::GivenUp { steps }) => write!(f, "refused 5 at {steps}"),
-            Reply::Refused(_) => write!(f, "refused"),
+            Ok(Some(count)) => write!(f, "done {count}"),
+            Ok(None) => write!(f, "impossible"),
+            Err(refusal) => write!(f, "{refusal}"),
         }
     }
 }

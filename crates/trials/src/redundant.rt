@@ -7,7 +7,7 @@ use crate::model::Instance;
 use crate::request::Request;
 use crate::tally::Seen;
 use move_rows::{Dependency, Fact, dependency_row, facts_of, facts_row};
-use redundancy::{Implication, core_of, implied};
+use redundancy::{core_of, implied};
 use relational::INSTANCE_LEN;
 use std::alloc::{AllocError, Global};
 
@@ -86,19 +86,19 @@ impl Judge {
         let asked = Generator::new(request.heap, &mut self.maker.random).question(request.case.c)?;
         let row = dependency_row(request.heap, &asked)?;
         match implied(request.rules(), row.as_slice(), request.case.c) {
-            Implication::Implied => {
+            Ok(true) => {
                 self.tally.count(Seen::Implied)?;
                 for _ in 0..4 {
                     self.judge_keeps(request, &asked)?;
                 }
                 Ok(())
             }
-            Implication::NotImplied => {
+            Ok(false) => {
                 self.tally.count(Seen::NotImplied)?;
                 self.judge_example(request, &asked)
             }
             // There is an egd, or it was given up.
-            Implication::Refused(_) => Ok(()),
+            Err(_) => Ok(()),
         }
     }
 

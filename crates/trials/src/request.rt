@@ -1,8 +1,8 @@
 // A case with its rows of numbers, as it is put to the engine.
 use crate::model::Case;
-use chase::{Reply, move_facts};
+use chase::move_facts;
 use move_rows::{dependencies_row, facts_row, query_row};
-use query::{Answer, certain_answers};
+use query::certain_answers;
 use relational::Refusal;
 use std::alloc::{AllocError, Global};
 
@@ -44,20 +44,12 @@ impl Request {
 
     // The same of other facts.
     pub fn moved_with(&self, facts: &[u64], out: &mut [u64]) -> Result<Option<u64>, Refusal> {
-        match move_facts(facts, self.rules(), out, self.case.c) {
-            Reply::Done(count) => Ok(Some(count)),
-            Reply::Impossible => Ok(None),
-            Reply::Refused(refusal) => Err(refusal),
-        }
+        move_facts(facts, self.rules(), out, self.case.c)
     }
 
     // How many answers were written, or nothing where there is no solution.
     pub fn answered(&self, out: &mut [u64]) -> Result<Option<u64>, Refusal> {
         let facts = self.facts.as_slice();
-        match certain_answers(facts, self.rules(), self.query.as_slice(), out, self.case.c) {
-            Answer::Done(count) => Ok(Some(count)),
-            Answer::Impossible => Ok(None),
-            Answer::Refused(refusal) => Err(refusal),
-        }
+        certain_answers(facts, self.rules(), self.query.as_slice(), out, self.case.c)
     }
 }
