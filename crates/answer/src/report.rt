@@ -52,7 +52,7 @@ fn push_answers(
             push_rows(out, behind(&room, 1), width as usize, count as usize, c)
         }
         Ok(None) => push_impossible(out),
-        Err(refusal) => push_refusal(out, refusal),
+        Err(refusal) => push_refusal(out, refusal.number(), refusal.place()),
     }
 }
 

@@ -17,7 +17,7 @@ fn push_move(out: &mut String, facts: &[u64], rules: &[u64], c: u64) -> Result<(
     match move_facts(facts, rules, &mut row, c) {
         Ok(Some(count)) => push_facts(out, &row, count as usize, c),
         Ok(None) => push_impossible(out),
-        Err(refusal) => push_refusal(out, refusal),
+        Err(refusal) => push_refusal(out, refusal.number(), refusal.place()),
     }
 }
 

@@ -1,11 +1,10 @@
 // Values, facts and refusals as text. Only want of memory keeps a text from being appended.
 ghost use Rattle.formats.specs.Lines.{fact_line, fact_lines, impossible_line, refusal_line, row_line, value_text, values_text};
 ghost use Rattle.relational.specs.Layout.{fact_in, facts_in};
-ghost use Rattle.relational.specs.Readings.{said};
 ghost use Rattle.std.specs.Prelude.{◌≡◌, ◌++◌, string_bytes, OnOk};
 
 use crate::slices::behind;
-use relational::{Refusal, fact_values};
+use relational::fact_values;
 use std::alloc::AllocError;
 
 // A constant as its number, a null counted from `c` behind a question mark.
@@ -66,10 +65,10 @@ pub fn push_row(out: &mut String, row: &[u64], c: u64) -> Result<(), AllocError>
 }
 
 // The line of a refusal.
-pub fn push_refusal(out: &mut String, refusal: Refusal) -> Result<(), AllocError>
-    ensures { OnOk result (string_bytes out.new ≡ string_bytes out.old ++ refusal_line (said refusal).0 (said refusal).1) }
+pub fn push_refusal(out: &mut String, number: u64, place: u64) -> Result<(), AllocError>
+    ensures { OnOk result (string_bytes out.new ≡ string_bytes out.old ++ refusal_line number place) }
 {
-    writeln!(out, "{refusal}")
+    writeln!(out, "refused {number} at {place}")
 }
 
 // The line that says that there is no solution.
@@ -82,7 +81,6 @@ pub fn push_impossible(out: &mut String) -> Result<(), AllocError>
 #[cfg(test)]
 mod tests {
     use super::{push_facts, push_refusal, push_row};
-    use relational::{Refusal, fact_values};
     use std::test::Fail;
 
     #[test]
@@ -99,7 +97,7 @@ mod tests {
         let row = [2, 10, 2, 1, 100, 0, 0, 11, 0, 9, 9, 9, 9];
         let mut text = String::new(rt.alloc());
         push_facts(&mut text, &row, 2, 100)?;
-        push_refusal(&mut text, Refusal::Facts { at: 64 })?;
+        push_refusal(&mut text, 1, 64)?;
         assert!(rt; text.as_str() == "10: 1 ?0\n11:\nrefused 1 at 64\n");
         Ok(())
     }

@@ -1,9 +1,10 @@
 -- The core that is computed is one.
 use Rattle.std.proofs.Common.{◌≡◌, ℕ, zero, suc, ◌<◌, ◌≤◌, Bool, true, false, cond, eqb, ◌⊎◌, List, [], ◌∷◌, ◌++◌, length, get_or, take, drop, sym, refl, subst, inl, inr, add-one, arith}
+use Rattle.std.specs.Cmp.Lexicographic.{bytes_decides}
 use Rattle.std.specs.List.{remove}
 use Rattle.std.proofs.lemmas.List.{take-append-drop, drop_more, drop_at, drop_all, length-take-le}
 use Rattle.std.proofs.lemmas.List.Edits.{length-remove}
-use Rattle.std.proofs.lemmas.Bool.{and_parts, and_from, eqb-true, eq-eqb, both_ways, false≢true}
+use Rattle.std.proofs.lemmas.Bool.{and_parts, and_from, eqb-true, eq-eqb, both_ways}
 use Rattle.relational.specs.Instances.{In, here, there, Within, Fact, Instance}
 use Rattle.relational.specs.Solutions.{Homomorphism}
 use Rattle.relational.specs.Tests.{any}
@@ -16,29 +17,15 @@ use Rattle.redundancy.proofs.Tested.{any_from}
 use Rattle.redundancy.proofs.Homomorphisms.{homomorphism_tested}
 
 -- THE TEST OF FACTS
-same_values_true : (ms ns : List ℕ) → same_values ms ns ≡ true → ms ≡ ns
-same_values_true [] [] e = refl
-same_values_true [] (n ∷ ns) e = absurd (false≢true e)
-same_values_true (m ∷ ms) [] e = absurd (false≢true e)
-same_values_true (m ∷ ms) (n ∷ ns) e =
-    let t = and_parts (eqb m n) (same_values ms ns) e in
-    let p = eqb-true m n t.0 in
-    let q = same_values_true ms ns t.1 in
-    cc
-
-same_values_refl : (ns : List ℕ) → same_values ns ns ≡ true
-same_values_refl [] = refl
-same_values_refl (n ∷ ns) = and_from (eqb n n) (same_values ns ns) (eq-eqb n n refl) (same_values_refl ns)
-
 pub same_fact_true : (f g : Fact) → same_fact f g ≡ true → f ≡ g
 same_fact_true f g e =
     let t = and_parts (eqb f.relation g.relation) (same_values f.values g.values) e in
     let p = eqb-true f.relation g.relation t.0 in
-    let q = same_values_true f.values g.values t.1 in
+    let q = (bytes_decides f.values g.values).0 t.1 in
     λ j. record { relation = p j; values = q j }
 
 pub same_fact_refl : (f : Fact) → same_fact f f ≡ true
-same_fact_refl f = and_from (eqb f.relation f.relation) (same_values f.values f.values) (eq-eqb f.relation f.relation refl) (same_values_refl f.values)
+same_fact_refl f = and_from (eqb f.relation f.relation) (same_values f.values f.values) (eq-eqb f.relation f.relation refl) ((bytes_decides f.values f.values).1 refl)
 
 pub seen_in : (f : Fact) (seen : Instance) → any (same_fact f) seen ≡ true → In f seen
 seen_in f seen e = let t = any_in (same_fact f) seen e in subst (λ z. In z seen) (sym (same_fact_true f t.0 t.2)) t.1

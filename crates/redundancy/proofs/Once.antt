@@ -1,20 +1,21 @@
 -- Reading facts one by one, each once.
-use Rattle.std.proofs.Common.{◌≡◌, ℕ, ◌+◌, ◌<◌, ◌≤◌, Bool, true, false, cond, [], ◌∷◌, ◌++◌, length, get_or, drop, Decides, sym, refl, ap, ◌∙◌}
-use Rattle.std.proofs.lemmas.Slice.Eq.{compares_Decides}
+use Rattle.std.proofs.Common.{◌≡◌, ℕ, ◌+◌, ◌<◌, ◌≤◌, Bool, true, false, cond, ◌&&◌, ◌||◌, List, [], ◌∷◌, ◌++◌, map, length, get_or, drop, ◌==◌, sym, refl, ap, ◌∙◌}
+use Rattle.std.specs.Cmp.{nat_eq_equiv}
+use Rattle.std.specs.Cmp.Lexicographic.{nat_list_eq_equiv}
 use Rattle.std.proofs.lemmas.List.{append-nil, append_assoc, drop_more, drop_all}
-use Rattle.std.proofs.lemmas.Bool.{eq-eqb}
-use Rattle.std.proofs.lemmas.Bool.Decides.{same_from_decides}
+use Rattle.relational.specs.declared.fact.Fact.{Fact as Stored}
 use Rattle.relational.specs.Instances.{Fact, Instance}
+use Rattle.relational.specs.Represented.{fact_of}
 use Rattle.relational.specs.Tests.{any}
 use Rattle.redundancy.specs.Cores.{same_values, same_fact, distinct_from}
 
--- facts of one relation are the same where their values are
-pub same_from_values : (f g : Fact) (r : Bool) → f.relation ≡ g.relation → Decides r (f.values ≡ g.values) → r ≡ same_fact f g
-same_from_values f g r e d =
-    let p = eq-eqb f.relation g.relation e in
-    same_from_decides r (same_values f.values g.values) d
-    (compares_Decides same_values (record { empty = refl; shorter = λ y ys. refl; longer = λ x xs. refl; heads = λ x y xs ys. refl }) f.values g.values)
-    ∙ sym (simp p)
+-- the test of the code has the sides the other way round
+same_back : (f g : Fact) → same_fact f g ≡ same_fact g f
+same_back f g = ap (λ (b : Bool). b && same_values f.values g.values) (nat_eq_equiv.symm f.relation g.relation) ∙ ap (λ (b : Bool). g.relation == f.relation && b) (nat_list_eq_equiv.symm f.values g.values)
+
+pub contained : (fact : Stored) (facts : List Stored) → any (λ (g : Stored). same_fact (fact_of g) (fact_of fact)) facts ≡ any (same_fact (fact_of fact)) (map fact_of facts)
+contained fact [] = refl
+contained fact (g ∷ facts) = λ i. same_back (fact_of g) (fact_of fact) i || contained fact facts i
 
 -- one more fact is looked at
 module _ (facts seen : Instance) (i : ℕ) (f : Fact) (l : i < length facts) (is : get_or facts i f ≡ f) where

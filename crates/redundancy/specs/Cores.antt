@@ -1,5 +1,6 @@
 -- The core of an instance. Numbers below c are constants, the others are nulls. These are definitions and statements: nothing is assumed.
-use Rattle.std.specs.Prelude.{ℕ, zero, suc, ◌-◌, Bool, true, false, cond, ◌&&◌, List, [], ◌∷◌, ◌++◌, map, length, Decides, ◌==◌, nat_lt}
+use Rattle.std.specs.Prelude.{ℕ, zero, suc, ◌-◌, Bool, cond, ◌&&◌, List, [], ◌∷◌, ◌++◌, map, length, Decides, ◌==◌, nat_eq, nat_lt}
+use Rattle.std.specs.Cmp.Lexicographic.{pointwise}
 use Rattle.std.specs.List.{remove}
 use Rattle.relational.specs.declared.term.Term.{Term}
 use Rattle.relational.specs.declared.term.Term.TheVariants.{Constant, Variable}
@@ -22,10 +23,7 @@ has_homomorphism c from to = not_empty (matches (map (as_atom c) from) to [])
 
 -- whether two rows of values are the same
 abbrev pub same_values : List ℕ → List ℕ → Bool
-same_values [] [] = true
-same_values [] (n ∷ ns) = false
-same_values (m ∷ ms) [] = false
-same_values (m ∷ ms) (n ∷ ns) = m == n && same_values ms ns
+same_values = pointwise nat_eq
 
 -- whether two facts are the same
 abbrev pub same_fact : Fact → Fact → Bool

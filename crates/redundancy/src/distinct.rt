@@ -1,29 +1,15 @@
 // Facts by value, each once.
 ghost use Rattle.std.specs.Prelude.{◌≡◌, ◌+◌, ◌*◌, ◌≤◌, map, length, Ok};
-ghost use Rattle.redundancy.specs.Cores.{distinct as distinct_facts, same_fact};
+ghost use Rattle.redundancy.specs.Cores.{distinct as distinct_facts};
 ghost use Rattle.relational.specs.Elements.{elements};
 ghost use Rattle.relational.specs.Layout.{facts_in};
 ghost use Rattle.relational.specs.Readings.{facts_reading};
 ghost use Rattle.relational.specs.Represented.{fact_of};
-ghost use Rattle.relational.specs.Tests.{any};
 
 use relational::{Bounded, Fact, INSTANCE_FACTS_MAX};
 
 // How many facts an instance has at most.
 pub const FACTS_ROOM: usize = INSTANCE_FACTS_MAX as usize;
-
-fn is_same(left: &Fact, right: &Fact) -> bool
-    ensures { result ≡ same_fact (fact_of left.now) (fact_of right.now) }
-{
-    left.relation == right.relation && left.values.as_slice() == right.values.as_slice()
-}
-
-// Whether the fact is one of the facts.
-fn stands(facts: &[Fact], fact: &Fact) -> bool
-    ensures { result ≡ any (same_fact (fact_of fact.now)) (map fact_of facts.now) }
-{
-    facts.iter().any(|other| is_same(fact, other))
-}
 
 // The facts of a checked row, each once, at its first coming.
 pub fn read_distinct(row: &[u64], count: usize) -> Bounded<Fact, FACTS_ROOM>
@@ -41,7 +27,7 @@ pub fn read_distinct(row: &[u64], count: usize) -> Bounded<Fact, FACTS_ROOM>
         let Some(fact) = Fact::read(&row[6 * i + 1..]) else {
             unreachable()
         };
-        if !stands(facts.as_slice(), &fact) {
+        if !facts.as_slice().contains(&fact) {
             facts.push(fact);
         }
     }

@@ -28,6 +28,7 @@ fn can_spare(facts: &[Fact], place: usize, c: u64) -> bool
 pub fn thin(facts: &mut Bounded<Fact, FACTS_ROOM>, c: u64)
     ensures { map fact_of (elements facts.new) ≡ thinned c (map fact_of (elements facts.old)) (length (map fact_of (elements facts.old))) (map fact_of (elements facts.old)) }
 {
+    // By place: the facts close up behind the one that is taken out.
     for place in (0..facts.count).rev() {
         if can_spare(facts.as_slice(), place, c) {
             facts.remove(place);

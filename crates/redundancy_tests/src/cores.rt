@@ -40,15 +40,11 @@ fn written(facts: &[(u64, u64)]) -> Row {
     row
 }
 
-fn same(left: &Row, right: &Row) -> bool {
-    left == right
-}
-
 // Whether the core of the first facts are the second.
 fn has_core(facts: &[(u64, u64)], core: &[(u64, u64)], c: u64) -> bool {
     let mut out = [7; 1930];
     let result = core_of(&pairs(facts), &mut out, c);
-    result == Ok(core.len() as u64) && same(&out, &written(core))
+    result == Ok(core.len() as u64) && out == written(core)
 }
 
 // Two facts have to go at a time, and the last two do.
@@ -126,7 +122,7 @@ fn own_core(rt: HostRuntime) {
     put_fact(&mut expected, 3, &[101, 5, 102, 103], 0);
     let mut out = [7; 1930];
     assert_eq!(rt; core_of(&row, &mut out, C), Ok(5));
-    assert!(rt; same(&out, &expected));
+    assert!(rt; out == expected);
     assert!(rt; has_core(&[], &[], C));
 }
 
@@ -143,7 +139,7 @@ fn unconnected() -> Row {
 fn largest(rt: HostRuntime) {
     let mut out = [7; 1930];
     assert_eq!(rt; core_of(&unconnected(), &mut out, C), Ok(1));
-    assert!(rt; same(&out, &written(&[(100, 101)])));
+    assert!(rt; out == written(&[(100, 101)]));
 }
 
 // Whether the core is refused so, and nothing is written; with room for 1,921 numbers, or for one less.
@@ -154,7 +150,7 @@ fn refuses(instance: &[u64], enough: bool, c: u64, refusal: Refusal) -> bool {
     } else {
         core_of(instance, &mut out[0..1920], c)
     };
-    result == Err(refusal) && same(&out, &[7; 1930])
+    result == Err(refusal) && out == [7; 1930]
 }
 
 // The first refusal that applies is told.
@@ -178,5 +174,5 @@ fn least_room(rt: HostRuntime) {
     let row = pairs(&[(1, 2), (100, 3)]);
     let mut out = [7; 1930];
     assert_eq!(rt; core_of(&row[0..13], &mut out[0..1921], 4294967296), Ok(2));
-    assert!(rt; same(&out, &written(&[(1, 2), (100, 3)])));
+    assert!(rt; out == written(&[(1, 2), (100, 3)]));
 }

@@ -1,7 +1,10 @@
 // Up to so many elements, in fixed memory.
 ghost use Rattle.std.specs.Prelude.{◌≡◌, ◌≤◌, ◌<◌, ◌+◌, ◌++◌, [], ◌∷◌, length, replicate, take, min, ⊤};
+ghost use Rattle.std.specs.Cmp.{on_equiv, on_per};
+ghost use Rattle.std.specs.Cmp.Lexicographic.{lists_equiv, lists_per, pointwise};
 
 use std::alloc::AllocError;
+use std::fmt;
 
 // The first `count` of N items; the others are room that is not used.
 pub struct Bounded<T, const N: usize> {
@@ -20,6 +23,31 @@ impl<T: Copy, const N: usize> Clone for Bounded<T, N> {
 
     fn clone(&self) -> Result<Self, AllocError> {
         Ok(*self)
+    }
+}
+
+// By the elements alone: what stands in the room behind them says nothing.
+impl<T: Copy + PartialEq, const N: usize> PartialEq for Bounded<T, N> {
+    ghost use Rattle.relational.specs.Elements.{elements};
+
+    ghost eq = { λ b d. pointwise T.eq (elements b) (elements d) };
+
+    ghost laws = { on_per elements (lists_per T.laws) };
+
+    fn eq(&self, other: &Self) -> bool {
+        self.as_slice() == other.as_slice()
+    }
+}
+
+impl<T: Copy + Eq, const N: usize> Eq for Bounded<T, N> {
+    ghost use Rattle.relational.specs.Elements.{elements};
+
+    ghost laws = { on_equiv elements (lists_equiv T.Eq.laws) };
+}
+
+impl<T: Copy + fmt::Debug, const N: usize> fmt::Debug for Bounded<T, N> {
+    fn fmt<W: fmt::Write>(&self, f: &mut fmt::Formatter<W>) -> fmt::Result {
+        f.debug_list().entries(self.as_slice()).finish()
     }
 }
 

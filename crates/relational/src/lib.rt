@@ -26,7 +26,7 @@ pub use fact::Fact;
 pub use inspect::{mentions, values_below};
 pub use instance::{Instance, fact_values};
 pub use laws::{no_solution_of_more, universal_equivalent};
-pub use read::read_terms;
+pub use read::{read_terms, used_term};
 pub use refusal::Refusal;
 pub use request::{Dependencies, Facts, Request};
 pub use term::Term;

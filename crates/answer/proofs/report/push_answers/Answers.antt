@@ -1,4 +1,4 @@
-use Rattle.std.proofs.Common.{ℕ, List, ◌∙◌, ap₂}
+use Rattle.std.proofs.Common.{ℕ, List, ◌∙◌, ap₂, rules}
 use Rattle.query.specs.Answering.{rows_in}
 use Rattle.formats.proofs.Texts.{retold}
 use Rattle.formats.specs.Lines.{row_lines}
@@ -22,4 +22,4 @@ pub returns-in-Err : goal.returns-in-Err
 returns-in-Err c =
     let e = c.in-Err.ensures in
     let t = refused_told c.args.facts.now c.args.rules.now c.args.query.now c.args.c c.in-Err.refusal c.certain_answers.new.out e.result e.memory in
-    record { text = retold c.push_refusal.result _ _ _ _ t.0 c.push_refusal.ensures; means = t.1 }
+    record { text = rw (← t.0) (search rules); means = t.1 }

@@ -1,6 +1,5 @@
-use Rattle.std.proofs.Common.{◌≡◌, ℕ, ◌+◌, ◌*◌, ◌<◌, List, [], ◌∷◌, ◌++◌, map, length, get_or, drop, Some, None, sym, ap, ◌∙◌, arith}
+use Rattle.std.proofs.Common.{◌≡◌, ℕ, ◌+◌, ◌*◌, ◌<◌, [], ◌∷◌, ◌++◌, map, length, get_or, drop, Some, None, sym, ap, ◌∙◌, arith}
 use Rattle.std.proofs.lemmas.List.{map_push}
-use Rattle.relational.specs.declared.fact.Fact.{Fact as Stored}
 use Rattle.relational.specs.Elements.{elements}
 use Rattle.relational.specs.Instances.{Fact, Instance}
 use Rattle.relational.specs.Layout.{facts_in}
@@ -10,9 +9,9 @@ use Rattle.relational.specs.Tests.{any}
 use Rattle.relational.proofs.Rows.{row_at, fact_rest, length_facts_from}
 use Rattle.redundancy.specs.Cores.{same_fact, distinct_from}
 use Rattle.redundancy.specs.Mappings.{no_fact}
-use Rattle.redundancy.proofs.Once.{distinct_old, distinct_new, distinct_all}
+use Rattle.redundancy.proofs.Once.{distinct_old, distinct_new, distinct_all, contained}
 use Rattle.redundancy.proofs.distinct.read_distinct.Goals as goal
-use Rattle.redundancy.proofs.distinct.read_distinct.Goals.{then-not-stands, else-not-stands}
+use Rattle.redundancy.proofs.distinct.read_distinct.Goals.{then-not-contains, else-not-contains}
 
 pub unreachable-requires : goal.unreachable-requires
 unreachable-requires c =
@@ -32,16 +31,16 @@ loop-i-preserved c =
     let a = row_at 1 320 (fact_at c.args.row.now) c.args.row.now facts c.loop-i.i f c.requires.read l in
     let b = fact_rest (6 * c.loop-i.i + 1) c.args.row.now (Some f) c.in-Some.ensures.value in
     let is : get_or facts c.loop-i.i f ≡ f = cc (a, b) in
-    let told : c.stands.result ≡ any (same_fact f) seen = c.stands.ensures ∙ ap (λ (gs : List Stored). any (same_fact f) (map fact_of gs)) c.as_slice.ensures in
-    elim c.if-not-stands.branch [
-      | then-not-stands w ↦
+    let told : c.contains.result ≡ any (same_fact f) seen = c.contains.ensures.value ∙ ap (any _) c.as_slice.ensures ∙ contained c.in-Some.fact (elements c.loop-i.facts) in
+    elim c.if-not-contains.branch [
+      | then-not-contains w ↦
           let more : map fact_of (elements w.push.new.self) ≡ seen ++ f ∷ [] = ap (map fact_of) w.push.ensures.elements ∙ map_push fact_of (elements c.loop-i.facts) c.in-Some.fact in
           rw w.facts-is (
-            ap (λ (gs : Instance). gs ++ distinct_from gs (drop (c.loop-i.i + 1) facts)) more ∙ distinct_new facts seen c.loop-i.i f l is (sym w.if-not-stands.true ∙ told) ∙ c.loop-i.invariant.0,
+            ap (λ (gs : Instance). gs ++ distinct_from gs (drop (c.loop-i.i + 1) facts)) more ∙ distinct_new facts seen c.loop-i.i f l is (sym w.if-not-contains.true ∙ told) ∙ c.loop-i.invariant.0,
             omega (arith, c.loop-i.invariant.1, w.push.ensures.count),
           )
-      | else-not-stands w ↦
-          rw w.facts-is (distinct_old facts seen c.loop-i.i f l is (sym w.if-not-stands.false ∙ told) ∙ c.loop-i.invariant.0, omega (arith, c.loop-i.invariant.1))
+      | else-not-contains w ↦
+          rw w.facts-is (distinct_old facts seen c.loop-i.i f l is (sym w.if-not-contains.false ∙ told) ∙ c.loop-i.invariant.0, omega (arith, c.loop-i.invariant.1))
     ]
 
 pub returns : goal.returns
