@@ -4,7 +4,7 @@
 
 mod report;
 
-use input::{Failure, arguments, exit_code, read_file, read_standard_input};
+use input::{Failure, arguments, print_answer, read_file, read_standard_input};
 use report::{report, stream_report};
 use std::process::ExitCode;
 
@@ -33,11 +33,6 @@ fn read_and_report(rt: &HostRuntime) -> Result<String, Failure> {
     }
 }
 
-fn run(rt: &HostRuntime) -> Result<(), Failure> {
-    let text = read_and_report(rt)?;
-    print!(rt; "{text}").map_err(Failure::Unwritable)
-}
-
 fn main(rt: HostRuntime) -> ExitCode {
-    exit_code(&rt, "answer", run(&rt))
+    print_answer(&rt, "answer", read_and_report(&rt))
 }

@@ -6,7 +6,7 @@ mod exit;
 mod failure;
 
 pub use error::InputError;
-pub use exit::exit_code;
+pub use exit::{exit_code, print_answer};
 pub use failure::Failure;
 use std::io::Read;
 use std::{env, fs};
