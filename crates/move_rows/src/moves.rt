@@ -1,7 +1,7 @@
 // Moves of facts by dependencies, what is told of one in words, and the worked example.
 use crate::model::{Dependency, Fact};
 use crate::rows::{dependencies_row, facts_row};
-use crate::text::{read_dependency, read_facts};
+use crate::text::read_dependency;
 use chase::move_facts;
 use relational::{INSTANCE_LEN, Refusal};
 use std::alloc::{AllocError, Global};

@@ -28,11 +28,8 @@ fn body_facts<F: Fn(u64) -> u64>(
 ) -> Result<Vec<Fact>, AllocError>
     requires { (f : F) (x : _) → F.pre f x }
 {
-    let mut facts = Vec::new(heap);
-    for atom in asked.body() {
-        facts.push(atom.image(&value))?;
-    }
-    Ok(facts)
+    let body = asked.body().iter();
+    body.map(|atom| atom.image(&value)).collect(heap)
 }
 
 impl Judge {
@@ -45,8 +42,9 @@ impl Judge {
         let row = facts_row(request.heap, moved.instance.facts)?;
         let mut out = [0; INSTANCE_LEN];
         let reply = core_of(row.as_slice(), &mut out, request.case.c);
-        self.tally.check(reply.is_ok(), "a result has a core")?;
         let part = facts_of(request.heap, &out)?;
+        let written = reply == Ok(part.len() as u64);
+        self.tally.check(written, "a result has a core")?;
         if part.len() < moved.instance.facts.len() {
             self.tally.count(Seen::Smaller)?;
         }

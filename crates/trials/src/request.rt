@@ -21,7 +21,7 @@ impl Request {
         let rules = dependencies_row(heap, case.dependencies.as_slice())?;
         let query = query_row(
             heap,
-            case.query.row.terms.as_slice(),
+            &case.query.row.terms,
             case.query.atoms.as_slice(),
         )?;
         Ok(Request {

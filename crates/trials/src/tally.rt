@@ -118,8 +118,8 @@ impl Tally {
     }
 
     pub fn count(&mut self, seen: Seen) -> Result<(), Stop> {
-        let times = self.times(seen).saturating_add(1);
-        self.counts.insert(seen, times)?;
+        let times = self.counts.entry(seen)?.or_insert(0);
+        *times = times.saturating_add(1);
         Ok(())
     }
 
