@@ -32,11 +32,7 @@ fn print(rt: &HostRuntime, answer: Result<String, Failure>) -> Result<(), Failur
 }
 
 // The status of a program that prints its answer: 1 too where it has none.
-pub fn print_answer(
-    rt: &HostRuntime,
-    program: &str,
-    answer: Result<String, Failure>,
-) -> ExitCode
+pub fn print_answer(rt: &HostRuntime, program: &str, answer: Result<String, Failure>) -> ExitCode
     ensures { is_ok answer ≡ false → exit_status result ≡ 1 }
 {
     exit_code(rt, program, print(rt, answer))
