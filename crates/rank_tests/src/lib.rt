@@ -1,7 +1,7 @@
 // Ranks of the positions of small lists of dependencies, run.
 #![tactic(auto)]
 
-ghost use Rattle.std.specs.Prelude.{◌+◌, ◌*◌, ◌<◌, ◌≤◌, length};
+ghost use Rattle.std.specs.Prelude.{◌+◌, ◌*◌, ◌≤◌, length};
 
 #[cfg(test)]
 mod tests {
@@ -11,47 +11,63 @@ mod tests {
     // Ranks and room for one number more.
     type Row = [u64; 962];
 
-    // Puts relation(x y) at a place of the rules.
-    fn put_atom(rules: &mut [u64], at: usize, relation: u64, x: u64, y: u64)
-        requires { at + 6 ≤ length rules.old }
+    // A dependency.
+    type Rule = [u64; 53];
+
+    // Puts an atom of variables at a place of a dependency.
+    fn put_atom(rule: &mut [u64], at: usize, relation: u64, variables: &[u64])
+        requires { at + 2 + 2 * length variables.now ≤ length rule.old }
     {
-        rules[at..at + 6].copy_from_slice(&[relation, 2, 1, x, 1, y]);
+        rule[at] = relation;
+        rule[at + 1] = variables.len() as u64;
+        for (term, variable) in rule[at + 2..].chunks_exact_mut(2).zip(variables) {
+            term.copy_from_slice(&[1, *variable]);
+        }
     }
 
-    // Makes dependency i from(x0 x1) → 10(x0 x2), to(x2 x1).
-    fn put_person(rules: &mut [u64], i: usize, from: u64, to: u64)
-        requires { 53 * i + 54 ≤ length rules.old }
-    {
-        let at = 53 * i + 1;
-        rules[at + 1] = 1;
-        put_atom(rules, at + 2, from, 0, 1);
-        rules[at + 32] = 2;
-        put_atom(rules, at + 33, 10, 0, 2);
-        put_atom(rules, at + 43, to, 2, 1);
+    // from(x0 x1) → 10(x0 x2), to(x2 x1).
+    fn person(from: u64, to: u64) -> Rule {
+        let mut rule = [0; 53];
+        rule[1] = 1;
+        put_atom(&mut rule, 2, from, &[0, 1]);
+        rule[32] = 2;
+        put_atom(&mut rule, 33, 10, &[0, 2]);
+        put_atom(&mut rule, 43, to, &[2, 1]);
+        rule
     }
 
-    // Makes dependency i relation(x0 x1), relation(x0 x2) → x1 = x2.
-    fn put_key(rules: &mut [u64], i: usize, relation: u64)
-        requires { 53 * i + 54 ≤ length rules.old }
-    {
-        let at = 53 * i + 1;
-        rules[at] = 1;
-        rules[at + 1] = 2;
-        put_atom(rules, at + 2, relation, 0, 1);
-        put_atom(rules, at + 12, relation, 0, 2);
-        rules[at + 32] = 1;
-        rules[at + 33] = 2;
+    // relation(x0 x1), relation(x0 x2) → x1 = x2.
+    fn key(relation: u64) -> Rule {
+        let mut rule = [0; 53];
+        rule[0] = 1;
+        rule[1] = 2;
+        put_atom(&mut rule, 2, relation, &[0, 1]);
+        put_atom(&mut rule, 12, relation, &[0, 2]);
+        rule[32] = 1;
+        rule[33] = 2;
+        rule
     }
 
-    // Makes dependency i from(x0 x1) → to(x1 x2).
-    fn put_step(rules: &mut [u64], i: usize, from: u64, to: u64)
-        requires { 53 * i + 54 ≤ length rules.old }
+    // from(x0 x1) → to(x1 x2).
+    fn step(from: u64, to: u64) -> Rule {
+        let mut rule = [0; 53];
+        rule[1] = 1;
+        put_atom(&mut rule, 2, from, &[0, 1]);
+        rule[32] = 1;
+        put_atom(&mut rule, 33, to, &[1, 2]);
+        rule
+    }
+
+    // Up to four dependencies behind their count.
+    fn list(dependencies: &[Rule]) -> [u64; 213]
+        requires { length dependencies.now ≤ 4 }
     {
-        let at = 53 * i + 1;
-        rules[at + 1] = 1;
-        put_atom(rules, at + 2, from, 0, 1);
-        rules[at + 32] = 1;
-        put_atom(rules, at + 33, to, 1, 2);
+        let mut rules = [0; 213];
+        rules[0] = dependencies.len() as u64;
+        for (room, rule) in rules[1..].chunks_exact_mut(53).zip(dependencies) {
+            room.copy_from_slice(rule);
+        }
+        rules
     }
 
     // Whether the row begins with these numbers and holds 7 behind them.
@@ -65,12 +81,7 @@ mod tests {
     // Objects with their makers' names and places are moved to persons: the persons have rank 1.
     #[test]
     fn persons(rt: HostRuntime) {
-        let mut rules = [0; 213];
-        rules[0] = 4;
-        put_person(&mut rules, 0, 0, 11);
-        put_person(&mut rules, 1, 1, 12);
-        put_key(&mut rules, 2, 10);
-        put_key(&mut rules, 3, 11);
+        let rules = list(&[person(0, 11), person(1, 12), key(10), key(11)]);
         let mut row = [7; 962];
         assert_eq!(rt; position_ranks(&rules, &mut row), Ok(10));
         let expected = [
@@ -82,17 +93,13 @@ mod tests {
 
     #[test]
     fn no_ranks(rt: HostRuntime) {
-        let mut rules = [0; 213];
-        rules[0] = 1;
-        put_step(&mut rules, 0, 10, 10);
+        let rules = list(&[step(10, 10)]);
         let mut row = [7; 962];
         assert_eq!(rt;
             position_ranks(&rules, &mut row),
             Err(Refusal::Unranked { at: 0 })
         );
-        rules[0] = 2;
-        put_person(&mut rules, 0, 0, 11);
-        put_step(&mut rules, 1, 10, 10);
+        let rules = list(&[person(0, 11), step(10, 10)]);
         assert_eq!(rt;
             position_ranks(&rules, &mut row),
             Err(Refusal::Unranked { at: 1 })
@@ -125,8 +132,8 @@ mod tests {
     // Makes all dependencies, the one behind i reading what i raises: 15-i(x0 x1) → 16-i(x1 x2).
     fn put_chain(rules: &mut [u64; 849]) {
         rules[0] = 16;
-        for i in 0..16 {
-            put_step(rules, i, 15 - i as u64, 16 - i as u64);
+        for (i, rule) in rules[1..].chunks_exact_mut(53).enumerate() {
+            rule.copy_from_slice(&step(15 - i as u64, 16 - i as u64));
         }
     }
 
@@ -155,27 +162,15 @@ mod tests {
     // Makes all dependencies, each of five atoms of four variables, no position twice.
     fn put_full(rules: &mut [u64; 849]) {
         rules[0] = 16;
-        for i in 0..16 {
-            let at = 53 * i + 1;
-            rules[at + 1] = 3;
-            rules[at + 32] = 2;
+        for (i, rule) in rules[1..].chunks_exact_mut(53).enumerate() {
+            rule[1] = 3;
+            rule[32] = 2;
             for (a, place) in [2, 12, 22, 33, 43].into_iter().enumerate() {
-                put_four(
-                    rules,
-                    at + place,
-                    5 * i as u64 + a as u64,
-                    4 * (a as u64 % 4),
-                );
+                let relation = 5 * i as u64 + a as u64;
+                let x = 4 * (a as u64 % 4);
+                put_atom(rule, place, relation, &[x, x + 1, x + 2, x + 3]);
             }
         }
-    }
-
-    // Puts relation(x x+1 x+2 x+3) at a place of the rules.
-    fn put_four(rules: &mut [u64], at: usize, relation: u64, x: u64)
-        requires place { at + 10 ≤ length rules.old }
-        requires variables { x < 16 }
-    {
-        rules[at..at + 10].copy_from_slice(&[relation, 4, 1, x, 1, x + 1, 1, x + 2, 1, x + 3]);
     }
 
     #[test]

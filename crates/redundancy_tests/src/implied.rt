@@ -1,4 +1,6 @@
 // Whether small tgds follow from others, and which of them stay.
+ghost use Rattle.std.specs.Prelude.{◌≤◌, length};
+
 use redundancy::{implied, reduce};
 use relational::Refusal;
 
@@ -10,19 +12,22 @@ type Rule = [u64; 53];
 type Rules = [u64; 160];
 
 // Puts an atom at a place of a dependency: the relation, and its variables.
-fn put_atom(rule: &mut Rule, at: usize, atom: &[u64]) {
-    if at <= 43 && 1 <= atom.len() && atom.len() <= 5 {
-        rule[at] = atom[0];
-        rule[at + 1] = atom.len() as u64 - 1;
-        for i in 1..atom.len() {
-            rule[at + 2 * i] = 1;
-            rule[at + 2 * i + 1] = atom[i];
-        }
+fn put_atom(rule: &mut Rule, at: usize, atom: &[u64])
+    requires place { at ≤ 43 }
+    requires atom { (1 ≤ length atom.now) × (length atom.now ≤ 5) }
+{
+    rule[at] = atom[0];
+    rule[at + 1] = atom.len() as u64 - 1;
+    for (term, variable) in rule[at + 2..].chunks_exact_mut(2).zip(&atom[1..]) {
+        term.copy_from_slice(&[1, *variable]);
     }
 }
 
 // A tgd with one body atom and one head atom.
-fn tgd(body: &[u64], head: &[u64]) -> Rule {
+fn tgd(body: &[u64], head: &[u64]) -> Rule
+    requires body { (1 ≤ length body.now) × (length body.now ≤ 5) }
+    requires head { (1 ≤ length head.now) × (length head.now ≤ 5) }
+{
     let mut rule = [0; 53];
     rule[1] = 1;
     put_atom(&mut rule, 2, body);
@@ -32,14 +37,18 @@ fn tgd(body: &[u64], head: &[u64]) -> Rule {
 }
 
 // A tgd with an empty body.
-fn fact(head: &[u64]) -> Rule {
+fn fact(head: &[u64]) -> Rule
+    requires { (1 ≤ length head.now) × (length head.now ≤ 5) }
+{
     let mut rule = tgd(&[0], head);
     rule[1] = 0;
     rule
 }
 
 // An egd that makes x0 and x1 equal.
-fn egd(body: &[u64]) -> Rule {
+fn egd(body: &[u64]) -> Rule
+    requires { (1 ≤ length body.now) × (length body.now ≤ 5) }
+{
     let mut rule = tgd(body, &[0]);
     rule[0] = 1;
     rule[32] = 0;
@@ -57,19 +66,13 @@ fn at_constant(rule: Rule, n: u64) -> Rule {
     rule
 }
 
-fn put_rule(rules: &mut Rules, i: usize, rule: &Rule) {
-    if i < 3 {
-        rules[53 * i + 1..53 * i + 54].copy_from_slice(rule);
-    }
-}
-
 // The first so many of three dependencies.
 fn list(count: u64, a: Rule, b: Rule, c: Rule) -> Rules {
     let mut rules = [0; 160];
     rules[0] = count;
-    put_rule(&mut rules, 0, &a);
-    put_rule(&mut rules, 1, &b);
-    put_rule(&mut rules, 2, &c);
+    for (room, rule) in rules[1..].chunks_exact_mut(53).zip(&[a, b, c]) {
+        room.copy_from_slice(rule);
+    }
     rules
 }
 
