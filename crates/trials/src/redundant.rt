@@ -28,8 +28,12 @@ fn body_facts<F: Fn(u64) -> u64>(
 ) -> Result<Vec<Fact>, AllocError>
     requires { (f : F) (x : _) → F.pre f x }
 {
-    let body = asked.body().iter();
-    body.map(|atom| atom.image(&value)).collect(heap)
+    // A chain was tried, and the proof of its closure did not close.
+    let mut facts = Vec::new(heap);
+    for atom in asked.body() {
+        facts.push(atom.image(&value))?;
+    }
+    Ok(facts)
 }
 
 impl Judge {

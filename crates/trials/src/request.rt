@@ -19,11 +19,7 @@ impl Request {
     pub fn new(heap: Global, case: Case) -> Result<Request, AllocError> {
         let facts = facts_row(heap, case.facts.as_slice())?;
         let rules = dependencies_row(heap, case.dependencies.as_slice())?;
-        let query = query_row(
-            heap,
-            &case.query.row.terms,
-            case.query.atoms.as_slice(),
-        )?;
+        let query = query_row(heap, &case.query.row.terms, case.query.atoms.as_slice())?;
         Ok(Request {
             heap,
             case,
