@@ -9,10 +9,12 @@ pub fn numbers(heap: Global, bytes: &[u8]) -> Result<Vec<u64>, AllocError>
     ensures { IfOk result (λ v. v.items ≡ numbers_of bytes.now) }
 {
     let (fours, _) = bytes.as_chunks();
-    fours
-        .iter()
-        .map(|four| u64::from(u32::from_le_bytes(*four)))
-        .collect(heap)
+    // All the memory at once: where it is not to be had, a collection would first take what there is, bit by bit.
+    let mut numbers = Vec::with_capacity(heap, fours.len())?;
+    for four in fours {
+        numbers.push(u64::from(u32::from_le_bytes(*four)))?;
+    }
+    Ok(numbers)
 }
 
 #[cfg(test)]

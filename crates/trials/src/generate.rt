@@ -3,7 +3,7 @@ ghost use Rattle.std.specs.Prelude.{◌≤◌};
 
 use crate::model::{Case, Query, variables};
 use crate::random::Random;
-use move_rows::{Atom, Dependency, Fact, bounded};
+use move_rows::{Atom, Dependency, Fact, few_of};
 use relational::Term;
 use std::alloc::{AllocError, Global};
 
@@ -88,7 +88,7 @@ impl Generator<'_> {
         let places = [(); 4];
         Fact {
             relation,
-            values: bounded(&places[..width], 0, |_| self.random.below(end)),
+            values: few_of(&places[..width], 0, |_| self.random.below(end)),
         }
     }
 
@@ -118,7 +118,7 @@ impl Generator<'_> {
         let places = [(); 4];
         Atom {
             relation,
-            terms: bounded(&places[..width], Term::Constant(0), |_| self.term(draw)),
+            terms: few_of(&places[..width], Term::Constant(0), |_| self.term(draw)),
         }
     }
 
