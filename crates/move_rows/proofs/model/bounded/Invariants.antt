@@ -1,6 +1,10 @@
 use Rattle.std.proofs.Common.{◌≡◌}
-use denote.Param.Always.{always_mut}
+use Rattle.std.specs.List.{FoldsTo, zip}
+use Rattle.relational.specs.Elements.{elements}
 use Rattle.move_rows.proofs.model.bounded.Given as goal
 
 abbrev pub invariant-loop-item : goal.invariant-loop-item
-invariant-loop-item g l = (always_mut g.F.FnMut l.initial.f → always_mut g.F.FnMut l.f) × (l.made.count ≡ l.item-index)
+invariant-loop-item g l = record {
+  count : l.made.count ≡ l.item-index;
+  called : FoldsTo (λ before call after. goal.F-step g before call.0 call.1 after) l.initial.f (zip l.items (elements l.made)) l.f;
+}
